@@ -1,0 +1,6 @@
+pub mod Places
+pub mod Before
+pub mod Counts
+pub mod Marks
+pub mod Growing
+pub mod Flight

@@ -28,18 +28,31 @@ abbrev pub numberAt : List ℕ → ℕ → MessageNumber
 numberAt log p = record { 0 = getD log p 0 + 256 * getD log (p + 1) 0 }
 
 -- the record r of so many bytes at place p, if the log has them all
-abbrev pub wholeAt : List ℕ → ℕ → ℕ → Record → Step
+unfoldable pub wholeAt : List ℕ → ℕ → ℕ → Record → Step
 wholeAt log p size r = cond (leb (p + size) (length log)) (Read r (place (p + size))) (Short p)
 
--- What stands at place p of a log, past its first record: kind, then body.
+-- the four kinds of event: how many bytes, and what they hold after the kind byte
+abbrev pub idleAt : List ℕ → ℕ → Step
+idleAt log p = wholeAt log p 2 (Idle (nodeAt log (p + 1)))
+
+abbrev pub markAt : List ℕ → ℕ → Step
+markAt log p = wholeAt log p 2 (Mark (nodeAt log (p + 1)))
+
+abbrev pub sendAt : List ℕ → ℕ → Step
+sendAt log p = wholeAt log p 5 (Send (nodeAt log (p + 1)) (nodeAt log (p + 2)) (numberAt log (p + 3)))
+
+abbrev pub receiptAt : List ℕ → ℕ → Step
+receiptAt log p = wholeAt log p 4 (Receipt (nodeAt log (p + 1)) (numberAt log (p + 2)))
+
+-- What stands at place p of a log, past its first record.
 unfoldable pub recordAt : List ℕ → ℕ → Step
 recordAt log p =
     let kind = getD log p 0 in
     cond (leb (length log) p) End
-    (cond (eqb kind 0x11) (wholeAt log p 2 (Idle (nodeAt log (p + 1))))
-    (cond (eqb kind 0x12) (wholeAt log p 2 (Mark (nodeAt log (p + 1))))
-    (cond (eqb kind 0x13) (wholeAt log p 5 (Send (nodeAt log (p + 1)) (nodeAt log (p + 2)) (numberAt log (p + 3))))
-    (cond (eqb kind 0x14) (wholeAt log p 4 (Receipt (nodeAt log (p + 1)) (numberAt log (p + 2))))
+    (cond (eqb kind 0x11) (idleAt log p)
+    (cond (eqb kind 0x12) (markAt log p)
+    (cond (eqb kind 0x13) (sendAt log p)
+    (cond (eqb kind 0x14) (receiptAt log p)
     (Unknown p)))))
 
 -- What stands at the start of a log: kind 0x10, then the node count, from 1 to 32.

@@ -5,7 +5,7 @@
 ghost use mathlib.Core.Path.{_≡_};
 ghost use Prim.Native.Nat.{_+_, _<_};
 ghost use lib.ListN.{length};
-ghost use Rattle.log.specs.Record.{recordAt, openingOf, numberAt};
+ghost use Rattle.log.specs.Record.{recordAt, idleAt, markAt, sendAt, receiptAt, numberAt, openingOf};
 
 // The number of a node, from 0.
 pub struct Node(pub u8);
@@ -62,44 +62,64 @@ impl Cursor {
         if log.len() <= at {
             return Step::End;
         }
-        let left = log.len() - at;
         let kind = log[at];
         match kind {
-            0x11 => {
-                if left < 2 {
-                    return Step::Short(at);
-                }
-                Step::Read(Record::Idle(Node(log[at + 1])), Cursor { at: at + 2 })
-            }
-            0x12 => {
-                if left < 2 {
-                    return Step::Short(at);
-                }
-                Step::Read(Record::Mark(Node(log[at + 1])), Cursor { at: at + 2 })
-            }
-            0x13 => {
-                if left < 5 {
-                    return Step::Short(at);
-                }
-                let number = number_at(log, at + 3);
-                Step::Read(
-                    Record::Send(Node(log[at + 1]), Node(log[at + 2]), number),
-                    Cursor { at: at + 5 },
-                )
-            }
-            0x14 => {
-                if left < 4 {
-                    return Step::Short(at);
-                }
-                let number = number_at(log, at + 2);
-                Step::Read(
-                    Record::Receipt(Node(log[at + 1]), number),
-                    Cursor { at: at + 4 },
-                )
-            }
+            0x11 => idle_at(log, at),
+            0x12 => mark_at(log, at),
+            0x13 => send_at(log, at),
+            0x14 => receipt_at(log, at),
             _ => Step::Unknown(at),
         }
     }
+}
+
+// The idle event at a place: its node.
+fn idle_at(log: &[u8], at: usize) -> Step
+    requires { ⌜ at < length (now log) ⌝ }
+    ensures { λ r. ⌜ r ≡ idleAt (now (log .entry)) at ⌝ }
+{
+    if log.len() - at < 2 {
+        return Step::Short(at);
+    }
+    Step::Read(Record::Idle(Node(log[at + 1])), Cursor { at: at + 2 })
+}
+
+// The mark at a place: its node.
+fn mark_at(log: &[u8], at: usize) -> Step
+    requires { ⌜ at < length (now log) ⌝ }
+    ensures { λ r. ⌜ r ≡ markAt (now (log .entry)) at ⌝ }
+{
+    if log.len() - at < 2 {
+        return Step::Short(at);
+    }
+    Step::Read(Record::Mark(Node(log[at + 1])), Cursor { at: at + 2 })
+}
+
+// The send at a place: its node, its destination and its message number.
+fn send_at(log: &[u8], at: usize) -> Step
+    requires { ⌜ at < length (now log) ⌝ }
+    ensures { λ r. ⌜ r ≡ sendAt (now (log .entry)) at ⌝ }
+{
+    if log.len() - at < 5 {
+        return Step::Short(at);
+    }
+    let number = number_at(log, at + 3);
+    Step::Read(
+        Record::Send(Node(log[at + 1]), Node(log[at + 2]), number),
+        Cursor { at: at + 5 },
+    )
+}
+
+// The receipt at a place: its node and its message number.
+fn receipt_at(log: &[u8], at: usize) -> Step
+    requires { ⌜ at < length (now log) ⌝ }
+    ensures { λ r. ⌜ r ≡ receiptAt (now (log .entry)) at ⌝ }
+{
+    if log.len() - at < 4 {
+        return Step::Short(at);
+    }
+    let number = number_at(log, at + 2);
+    Step::Read(Record::Receipt(Node(log[at + 1]), number), Cursor { at: at + 4 })
 }
 
 // The message number at a place, low byte first.

@@ -1,1 +1,4 @@
 pub mod Reader
+pub mod Stands
+pub mod Rules
+pub mod Rows

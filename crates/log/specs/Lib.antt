@@ -1,1 +1,3 @@
 pub mod Record
+pub mod Verdict
+pub mod Table

@@ -1,4 +1,7 @@
 pub mod Reader
 pub mod Stands
 pub mod Rules
-pub mod Rows
+pub mod Walk
+pub mod FirstRecord
+pub mod Verdict
+pub mod Cases

@@ -16,7 +16,7 @@ use Rattle.log.specs.declared.Record.the-variants.{Send, Receipt}
 use Rattle.log.specs.declared.Step.the-variants.{Read, Unknown, Short}
 use Rattle.log.specs.declared.Opening.the-variants.{Nodes, Missing, OutOfRange}
 use Rattle.log.specs.Record.{recordAt, openingOf}
-use Rattle.log.specs.Verdict.{eventOf}
+use Rattle.log.specs.Verdict.{Verdict, refused, accepted, eventOf}
 
 -- The whole record at place p, for n nodes after the events of cut, breaks the rule of this number, and none that is tested
 -- before it: 12, 6 (sender first), 7, 8, 9, 10, 11. The last number is the refusal's place.
@@ -65,3 +65,8 @@ pub data Refused (log : List ℕ) : ℕ → ℕ → Type 0 where
   -- a rule broken by a whole record
   refused-rule : {n p x q : ℕ} {cut : List Event} {r : Record} {c : Cursor}
       → Reached log n p cut → recordAt log p ≡ Read r c → Breaks n cut p r x q → Refused log x q
+
+-- the verdict that the table gives: a refusal of one of its rows, or row 0, where every record of the log passes
+pub data Row (log : List ℕ) : Verdict → Type 0 where
+  row-accepted : {n : ℕ} {cut : List Event} → Reached log n (length log) cut → Row log (accepted n cut)
+  row-refused : {x q : ℕ} → Refused log x q → Row log (refused x q)

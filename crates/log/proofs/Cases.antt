@@ -1,4 +1,4 @@
--- What 01's table of logs says of refusals, and that logs A and B are accepted with their events: one table of rows,
+-- What 01's table of logs says of refusals, and that logs A and B are accepted with their events: one table of cases,
 -- computed.
 -- Assumes nothing.
 use mathlib.Core.Path.{_≡_, refl}
@@ -11,12 +11,12 @@ use Rattle.log.specs.Record.{wholeAt, recordAt, openingOf}
 use Rattle.log.specs.Verdict.{Verdict, refused, accepted, mailRules, walk, verdict}
 
 -- a log and the verdict that 01 gives
-pub record Row : Type 0 where
+pub record Case : Type 0 where
   pub log : List ℕ
   pub says : Verdict
 
-abbrev row : List ℕ → Verdict → Row
-row l v = record { log = l; says = v }
+abbrev case : List ℕ → Verdict → Case
+case l v = record { log = l; says = v }
 
 abbrev pub logA : List ℕ
 logA = 0x10 ∷ 3 ∷ 0x12 ∷ 0 ∷ 0x13 ∷ 0 ∷ 1 ∷ 1 ∷ 0 ∷ 0x13 ∷ 0 ∷ 2 ∷ 2 ∷ 0 ∷ 0x14 ∷ 1 ∷ 1 ∷ 0 ∷ 0x12 ∷ 1 ∷ 0x13 ∷ 1 ∷ 2 ∷ 3 ∷ 0 ∷ 0x14 ∷ 2 ∷ 2 ∷ 0 ∷ 0x14 ∷ 2 ∷ 3 ∷ 0 ∷ 0x12 ∷ 2 ∷ []
@@ -30,22 +30,22 @@ logB = 0x10 ∷ 2 ∷ 0x12 ∷ 0 ∷ 0x13 ∷ 0 ∷ 1 ∷ 1 ∷ 0 ∷ 0x14 ∷ 1
 abbrev pub cutB : List Event
 cutB = receipt 0 2 ∷ mark 0 ∷ receipt 0 3 ∷ send 1 0 3 ∷ mark 1 ∷ send 1 0 2 ∷ receipt 1 1 ∷ send 0 1 1 ∷ mark 0 ∷ []
 
-abbrev pub rows : List Row
-rows =
-    row (0x10 ∷ 1 ∷ []) (accepted 1 [])
-    ∷ row [] (refused 2 0)
-    ∷ row (0x10 ∷ 0 ∷ []) (refused 3 1)
-    ∷ row (0x10 ∷ 0x21 ∷ []) (refused 3 1)
-    ∷ row (0x10 ∷ 2 ∷ 0x13 ∷ 0 ∷ 0 ∷ 1 ∷ 0 ∷ []) (refused 7 4)
-    ∷ row (0x10 ∷ 2 ∷ 0x13 ∷ 5 ∷ 5 ∷ 1 ∷ 0 ∷ []) (refused 6 3)
-    ∷ row (0x10 ∷ 2 ∷ 0x14 ∷ 1 ∷ 1 ∷ 0 ∷ []) (refused 10 4)
-    ∷ row (0x10 ∷ 2 ∷ 0x13 ∷ 0 ∷ 1 ∷ 1 ∷ 0 ∷ 0x13 ∷ 1 ∷ 0 ∷ 1 ∷ 0 ∷ []) (refused 8 10)
-    ∷ row (0x10 ∷ 3 ∷ 0x13 ∷ 0 ∷ 1 ∷ 1 ∷ 0 ∷ 0x14 ∷ 2 ∷ 1 ∷ 0 ∷ []) (refused 11 9)
-    ∷ row (0x10 ∷ 1 ∷ 0x12 ∷ 0 ∷ 0x12 ∷ 0 ∷ []) (accepted 1 (mark 0 ∷ mark 0 ∷ []))
-    ∷ row logA (accepted 3 cutA)
-    ∷ row logB (accepted 2 cutB)
+abbrev pub cases : List Case
+cases =
+    case (0x10 ∷ 1 ∷ []) (accepted 1 [])
+    ∷ case [] (refused 2 0)
+    ∷ case (0x10 ∷ 0 ∷ []) (refused 3 1)
+    ∷ case (0x10 ∷ 0x21 ∷ []) (refused 3 1)
+    ∷ case (0x10 ∷ 2 ∷ 0x13 ∷ 0 ∷ 0 ∷ 1 ∷ 0 ∷ []) (refused 7 4)
+    ∷ case (0x10 ∷ 2 ∷ 0x13 ∷ 5 ∷ 5 ∷ 1 ∷ 0 ∷ []) (refused 6 3)
+    ∷ case (0x10 ∷ 2 ∷ 0x14 ∷ 1 ∷ 1 ∷ 0 ∷ []) (refused 10 4)
+    ∷ case (0x10 ∷ 2 ∷ 0x13 ∷ 0 ∷ 1 ∷ 1 ∷ 0 ∷ 0x13 ∷ 1 ∷ 0 ∷ 1 ∷ 0 ∷ []) (refused 8 10)
+    ∷ case (0x10 ∷ 3 ∷ 0x13 ∷ 0 ∷ 1 ∷ 1 ∷ 0 ∷ 0x14 ∷ 2 ∷ 1 ∷ 0 ∷ []) (refused 11 9)
+    ∷ case (0x10 ∷ 1 ∷ 0x12 ∷ 0 ∷ 0x12 ∷ 0 ∷ []) (accepted 1 (mark 0 ∷ mark 0 ∷ []))
+    ∷ case logA (accepted 3 cutA)
+    ∷ case logB (accepted 2 cutB)
     ∷ []
 
-pub rows-hold : map (λ r. verdict (r .log)) rows ≡ map (λ (r : Row). r .says) rows
+pub cases-hold : map (λ r. verdict (r .log)) cases ≡ map (λ (r : Case). r .says) cases
 unfolding verdict walk mailRules recordAt openingOf wholeAt inFlight without
-rows-hold = refl
+cases-hold = refl

@@ -4,4 +4,7 @@ pub mod Rules
 pub mod Walk
 pub mod FirstRecord
 pub mod Verdict
+pub mod Points
+pub mod Cuts
+pub mod Accepted
 pub mod Cases

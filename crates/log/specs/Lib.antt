@@ -1,3 +1,4 @@
 pub mod Record
 pub mod Verdict
 pub mod Table
+pub mod Lawful

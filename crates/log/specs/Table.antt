@@ -52,6 +52,11 @@ pub data Reached (log : List ℕ) (n : ℕ) : ℕ → List Event → Type 0 wher
   reached-next : {p : ℕ} {cut : List Event} {r : Record} {c : Cursor}
       → Reached log n p cut → recordAt log p ≡ Read r c → Passes n cut r → Reached log n (c .at) (eventOf r ∷ cut)
 
+-- a whole record ends just before place p of the log
+pub data Ends (log : List ℕ) : ℕ → Type 0 where
+  ends-first : {n : ℕ} {c : Cursor} → openingOf log ≡ Nodes n c → Ends log (c .at)
+  ends-next : {p : ℕ} {r : Record} {c : Cursor} → Ends log p → recordAt log p ≡ Read r c → Ends log (c .at)
+
 -- a row of the table: the log is refused with this number at this place
 pub data Refused (log : List ℕ) : ℕ → ℕ → Type 0 where
   -- no whole 0x10 record at the start

@@ -6,14 +6,13 @@ use mathlib.Core.Logic.{_⊎_, inl, inr, _↔_, _≢_, ⊎-elim}
 use mathlib.Core.Bool.{Bool, true, false, cond}
 use mathlib.Core.List.{List, [], _∷_, List·Memᴰ, List·Memᴰ·head, List·Memᴰ·tail, List·Memᴰ·not-nil, List·Memᴰ·cases-cons}
 use Prim.Native.Nat.{ℕ, suc, _≤_}
-use native.Mathlib.Decide.{ℕ-discrete}
+use native.Mathlib.Nat.{le-refl}
 use native.Mathlib.Omega.{arith}
 use lib.Dec.{eqb}
 use lib.ListN.{length}
-use borrow.Author.Tests.{eq-eqb, ne-eqb, eqb-true, eqb-false}
+use borrow.Author.Tests.{eqb-true, eqb-false}
 use Rattle.order.specs.Order.{Event, idle, mark, send, receipt, Names, Flying, flying-head, flying-tail}
 use Rattle.order.specs.Flight.{Message, without, inFlight, Distinct, distinct-nil, distinct-cons}
-use Rattle.order.proofs.Places.{flying-bound, flying-cases}
 
 -- ---- without a number
 
@@ -48,6 +47,15 @@ without-distinct m (x ∷ xs) (distinct-cons a d) = go (eqb (x .number) m) (with
     go : (b : Bool) → Distinct (without m xs) → Distinct (cond b (without m xs) (x ∷ without m xs))
     go true r = r
     go false r = distinct-cons (λ y h. a y (without-out m xs y h .0)) r
+
+pub without-length : (m : ℕ) (xs : List Message) → length (without m xs) ≤ length xs
+unfolding without
+without-length m [] = le-refl _
+without-length m (x ∷ xs) = go (eqb (x .number) m) (without-length m xs)
+  where
+    go : (b : Bool) → length (without m xs) ≤ length xs → length (cond b (without m xs) (x ∷ without m xs)) ≤ suc (length xs)
+    go true h = omega arith
+    go false h = omega arith
 
 -- ---- the list and the flights
 

@@ -1,0 +1,63 @@
+-- A log is accepted exactly if it is the bytes of a lawful row of events: what is read of the records gives back their
+-- bytes, and the bytes of a lawful row are read, record by record, as its events.
+-- Assumes nothing.
+use mathlib.Core.Path.{_≡_, refl, sym, _∙_, ap, subst}
+use mathlib.Core.Logic.{_↔_}
+use mathlib.Core.List.{List, [], _∷_, _++_}
+use Prim.Native.Nat.{ℕ, zero, suc, _+_, _*_, _/_, _%_, _<_, _≤_}
+use native.Mathlib.Nat.{le-refl}
+use native.Mathlib.Omega.{arith}
+use lib.ListN.{length, getD, take}
+use Rattle.order.specs.Order.{Event, idle, mark, send, receipt, Sound, sound-nil, sound-cons}
+use Rattle.order.specs.Flight.{without, inFlight}
+use Rattle.order.proofs.Flight.{without-length}
+use Rattle.log.specs.declared.Record.{Record}
+use Rattle.log.specs.declared.Record.the-variants.{Idle, Mark, Send, Receipt}
+use Rattle.log.specs.Verdict.{Verdict, accepted, eventOf, verdict}
+use Rattle.log.specs.Table.{Passes, Reached, reached-first, reached-next}
+use Rattle.log.specs.Lawful.{Lawful, recordOf, bytesOf}
+use Rattle.log.proofs.FirstRecord.{nodes-there}
+use Rattle.log.proofs.Verdict.{verdict-accepted}
+use Rattle.log.proofs.Cuts.{reached-cut}
+
+-- ---- accepted events are lawful
+
+reached-range : {log : List ℕ} {n p : ℕ} {cut : List Event} → Reached log n p cut → (1 ≤ n) × (n ≤ 32)
+reached-range {log} (reached-first e) = let h = nodes-there log e in (h .2, h .3)
+reached-range (reached-next before e h) = reached-range before
+
+pub reached-sound : {log : List ℕ} {n p : ℕ} {cut : List Event} → Reached log n p cut → Sound n cut
+reached-sound (reached-first e) = sound-nil
+reached-sound (reached-next before e h) = sound-cons (h .1) (reached-sound before)
+
+pub reached-events : {log : List ℕ} {n p : ℕ} {cut : List Event} → Reached log n p cut → length cut ≤ 4096
+reached-events (reached-first e) = omega arith
+reached-events (reached-next before e h) = h .0
+
+-- an event that passes keeps the messages in flight to 128
+passes-flying : (n : ℕ) (cut : List Event) (r : Record) → Passes n cut r → length (inFlight cut) ≤ 128 → length (inFlight (eventOf r ∷ cut)) ≤ 128
+unfolding inFlight
+passes-flying n cut (Idle i) h k = k
+passes-flying n cut (Mark i) h k = k
+passes-flying n cut (Send i j m) h k = omega (arith, h .2 (i .0) (j .0) (m .0) refl, without-length (m .0) (inFlight cut))
+passes-flying n cut (Receipt j m) h k = omega (arith, without-length (m .0) (inFlight cut))
+
+pub reached-flying : {log : List ℕ} {n p : ℕ} {cut : List Event} → Reached log n p cut → length (inFlight cut) ≤ 128
+unfolding inFlight
+reached-flying (reached-first e) = omega arith
+reached-flying {n = n} (reached-next {cut = cut} {r = r} before e h) = passes-flying n cut r h (reached-flying before)
+
+pub reached-lawful : {log : List ℕ} {n p : ℕ} {cut : List Event} → Reached log n p cut → Lawful n cut
+reached-lawful {log} {n} {p} here =
+    let g = reached-range here in
+    record {
+      some-node = g .0;
+      few-nodes = g .1;
+      sound = reached-sound here;
+      few-events = reached-events here;
+      few-flying = λ later past e. reached-flying (reached-cut later (subst (Reached log n p) e here) .2);
+    }
+
+-- the events of an accepted log are lawful
+pub accepted-lawful : (log : List ℕ) (n : ℕ) (cut : List Event) → verdict log ≡ accepted n cut → Lawful n cut
+accepted-lawful log n cut e = reached-lawful (verdict-accepted log .0 e)

@@ -1,0 +1,63 @@
+-- Where a refusal points: at the byte that the table names, inside the record that is refused, and never past the log's
+-- length. By the bytes behind each record that is read.
+-- Assumes nothing.
+use mathlib.Core.Path.{_≡_, refl, subst}
+use mathlib.Core.Logic.{_⊎_, inl, inr}
+use mathlib.Core.List.{List}
+use Prim.Native.Nat.{ℕ, _+_, _<_, _≤_}
+use native.Mathlib.Omega.{arith}
+use lib.ListN.{length, getD}
+use Rattle.order.specs.Order.{Event, Flying}
+use Rattle.log.specs.declared.Cursor.{Cursor}
+use Rattle.log.specs.declared.Record.{Record}
+use Rattle.log.specs.declared.Step.the-variants.{Read}
+use Rattle.log.specs.Record.{numberAt, recordAt}
+use Rattle.log.specs.Table.{Breaks, breaks-12, breaks-6, breaks-6-to, breaks-7, breaks-8, breaks-9, breaks-10, breaks-11, Reached, Refused, refused-2, refused-3, refused-4, refused-5, refused-rule}
+use Rattle.log.proofs.Stands.{Stands, stands, stands-idle, stands-mark, stands-send, stands-receipt, read-forward, unknown-there, short-there}
+use Rattle.log.proofs.FirstRecord.{missing-there, range-there}
+
+-- what stands at the place of a refusal of this number, for a record whose kind byte is at p
+pub data Points (log : List ℕ) (n : ℕ) (cut : List Event) (p : ℕ) : ℕ → ℕ → Type 0 where
+  -- the kind byte
+  points-kind : {x : ℕ} → (x ≡ 9) ⊎ (x ≡ 12) → Points log n cut p x p
+  -- a node that is not below the node count
+  points-node : {q : ℕ} → n ≤ getD log q 0 → Points log n cut p 6 q
+  -- the destination, which is the sender
+  points-itself : getD log (p + 1) 0 ≡ getD log (p + 2) 0 → Points log n cut p 7 (p + 2)
+  -- the first byte of a number that is in flight
+  points-flying : {x q a b s : ℕ} → (x ≡ 8) ⊎ (x ≡ 11) → Flying (numberAt log q .0) a b cut s → Points log n cut p x q
+  -- the first byte of a number that is not
+  points-unsent : {q : ℕ} → ((a b s : ℕ) → ¬ Flying (numberAt log q .0) a b cut s) → Points log n cut p 10 q
+
+module _ (log : List ℕ) (n : ℕ) (cut : List Event) (p : ℕ) where
+  points : {r : Record} {c : Cursor} {x q : ℕ} → Stands log p (Read r c) → Breaks n cut p r x q → Points log n cut p x q × (p ≤ q) × (q < c .at)
+  points (stands-idle k h) (breaks-12 a) = (points-kind (inr refl), omega arith, omega arith)
+  points (stands-idle k h) (breaks-6 a b) = (points-node b, omega arith, omega arith)
+  points (stands-mark k h) (breaks-12 a) = (points-kind (inr refl), omega arith, omega arith)
+  points (stands-mark k h) (breaks-6 a b) = (points-node b, omega arith, omega arith)
+  points (stands-send k h) (breaks-12 a) = (points-kind (inr refl), omega arith, omega arith)
+  points (stands-send k h) (breaks-6 a b) = (points-node b, omega arith, omega arith)
+  points (stands-send k h) (breaks-6-to a b d) = (points-node d, omega arith, omega arith)
+  points (stands-send k h) (breaks-7 a b d e) = (points-itself e, omega arith, omega arith)
+  points (stands-send k h) (breaks-8 a b d e f) = (points-flying (inl refl) f, omega arith, omega arith)
+  points (stands-send k h) (breaks-9 a b d) = (points-kind (inl refl), omega arith, omega arith)
+  points (stands-receipt k h) (breaks-12 a) = (points-kind (inr refl), omega arith, omega arith)
+  points (stands-receipt k h) (breaks-6 a b) = (points-node b, omega arith, omega arith)
+  points (stands-receipt k h) (breaks-10 a b d) = (points-unsent d, omega arith, omega arith)
+  points (stands-receipt k h) (breaks-11 a b f d) = (points-flying (inr refl) f, omega arith, omega arith)
+
+  -- a broken rule points at its byte, inside the record
+  pub breaks-point : {r : Record} {c : Cursor} {x q : ℕ} → recordAt log p ≡ Read r c → Breaks n cut p r x q
+      → Points log n cut p x q × (p ≤ q) × (q < c .at)
+  breaks-point e b = points (subst (Stands log p) e (stands log p)) b
+
+-- a refusal's place is within the log, and 2 alone is given where there may be no byte: at 0
+pub refused-within : {log : List ℕ} {x q : ℕ} → Refused log x q → ((x ≡ 2) × (q ≡ 0)) ⊎ (q < length log)
+refused-within {log} (refused-2 e) = inl (refl, missing-there log e)
+refused-within {log} (refused-3 e) = let h = range-there log e in inr (omega arith)
+refused-within {log} (refused-4 {p = p} here e) = let h = unknown-there log p e in inr (omega arith)
+refused-within {log} (refused-5 {p = p} here e) = let h = short-there log p e in inr (omega arith)
+refused-within {log} (refused-rule {n = n} {p = p} {cut = cut} here e b) =
+    let h = breaks-point log n cut p e b in
+    let f = read-forward log p e in
+    inr (omega arith)

@@ -1,5 +1,5 @@
--- A log is accepted exactly if it is the bytes of a lawful row of events: what is read of the records gives back their
--- bytes, and the bytes of a lawful row are read, record by record, as its events.
+-- The events of an accepted log are lawful: sound, at most 4,096, and at most 128 messages in flight at every cut. By
+-- induction on what was reached.
 -- Assumes nothing.
 use mathlib.Core.Path.{_≡_, refl, sym, _∙_, ap, subst}
 use mathlib.Core.Logic.{_↔_}

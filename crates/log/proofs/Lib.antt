@@ -7,4 +7,5 @@ pub mod Verdict
 pub mod Points
 pub mod Cuts
 pub mod Accepted
+pub mod Encoded
 pub mod Cases

@@ -1,10 +1,10 @@
--- Which rows of events a barn of n nodes may log, of the events alone, and the bytes of such a row. proofs/Accepted.antt
+-- Which rows of events a barn of n nodes may log, of the events alone, and the bytes of such a row. proofs/Encoded.antt
 -- shows that a log is accepted exactly if it is the bytes of a lawful row.
 -- Assumes nothing.
 use mathlib.Core.Path.{_≡_}
 use mathlib.Core.List.{List, [], _∷_, _++_}
 use Prim.Native.Nat.{ℕ, _/_, _%_, _<_, _≤_}
-use lib.ListN.{length}
+use lib.ListN.{length, getD}
 use Rattle.order.specs.Order.{Event, idle, mark, send, receipt, Sound}
 use Rattle.order.specs.Flight.{inFlight}
 
@@ -15,6 +15,10 @@ pub record Lawful (n : ℕ) (cut : List Event) : Type 0 where
   pub sound : Sound n cut
   pub few-events : length cut ≤ 4096
   pub few-flying : (later past : List Event) → cut ≡ later ++ past → length (inFlight past) ≤ 128
+
+-- the numbers of the list are bytes
+abbrev pub Bytes : List ℕ → Type 0
+Bytes log = (i : ℕ) → getD log i 0 < 256
 
 -- the bytes of an event's record, after 01's table of kinds; a two-byte number is low byte first
 abbrev pub recordOf : Event → List ℕ

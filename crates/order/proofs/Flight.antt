@@ -10,7 +10,7 @@ use native.Mathlib.Nat.{le-refl}
 use native.Mathlib.Omega.{arith}
 use lib.Dec.{eqb}
 use lib.ListN.{length}
-use borrow.Author.Tests.{eqb-true, eqb-false}
+use borrow.Author.Tests.{ne-eqb, eqb-true, eqb-false}
 use Rattle.order.specs.Order.{Event, idle, mark, send, receipt, Names, Flying, flying-head, flying-tail}
 use Rattle.order.specs.Flight.{Message, without, inFlight, Distinct, distinct-nil, distinct-cons}
 
@@ -56,6 +56,12 @@ without-length m (x ∷ xs) = go (eqb (x .number) m) (without-length m xs)
     go : (b : Bool) → length (without m xs) ≤ length xs → length (cond b (without m xs) (x ∷ without m xs)) ≤ suc (length xs)
     go true h = omega arith
     go false h = omega arith
+
+-- a number that no message has takes none away
+pub without-none : (m : ℕ) (xs : List Message) → ((x : Message) → List·Memᴰ x xs → x .number ≢ m) → without m xs ≡ xs
+unfolding without
+without-none m [] h = refl
+without-none m (x ∷ xs) h = rw (ne-eqb (x .number) m (h x (List·Memᴰ·head refl)), without-none m xs (λ y k. h y (List·Memᴰ·tail k)))
 
 -- ---- the list and the flights
 

@@ -8,7 +8,7 @@ use Prim.Native.Nat.{ℕ}
 use Rattle.order.specs.Order.{Event, idle, mark, send, receipt}
 use Rattle.order.specs.Flight.{without, inFlight}
 use Rattle.log.specs.Record.{wholeAt, recordAt, openingOf}
-use Rattle.log.specs.Verdict.{Verdict, refused, accepted, mailRules, walk, verdict}
+use Rattle.log.specs.Verdict.{Verdict, refused, accepted, rules, walk, verdict}
 
 -- a log and the verdict that 01 gives
 pub record Case : Type 0 where
@@ -47,5 +47,5 @@ cases =
     ∷ []
 
 pub cases-hold : map (λ r. verdict (r .log)) cases ≡ map (λ (r : Case). r .says) cases
-unfolding verdict walk mailRules recordAt openingOf wholeAt inFlight without
+unfolding verdict walk rules recordAt openingOf wholeAt inFlight without
 cases-hold = refl

@@ -149,7 +149,7 @@ lawful-reached {n} (e ∷ past) l =
     let xs = bytesOf n past in
     let ys = recordOf e in
     let here = reached-same xs (xs ++ ys) (length xs) (omega (arith, length-append xs ys)) (λ i h. sym (List·getD-append xs ys 0 i h))
-          (lawful-reached past (lawful-tail l)) (le-refl _) in
+    (lawful-reached past (lawful-tail l)) (le-refl _) in
     let next = reached-next here (encoded-read xs e) (lawful-passes n e past l) in
     rw length-append (rw (record-event e) at next)
 
@@ -157,6 +157,7 @@ lawful-reached {n} (e ∷ past) l =
 
 -- a log is accepted exactly if it is the bytes of a lawful row of events
 pub accepted-exactly : (log : List ℕ) → Bytes log → (n : ℕ) (cut : List Event) → (verdict log ≡ accepted n cut) ↔ (Lawful n cut × (log ≡ bytesOf n cut))
-accepted-exactly log bytes n cut =
-    (λ e. (accepted-lawful log n cut e, sym (take-length log) ∙ reached-bytes log bytes (verdict-accepted log .0 e)),
-     λ h. rw (h .1) (verdict-accepted (bytesOf n cut) .1 (lawful-reached cut (h .0))))
+accepted-exactly log bytes n cut = (
+  λ e. (accepted-lawful log n cut e, sym (take-length log) ∙ reached-bytes log bytes (verdict-accepted log .0 e)),
+  λ h. rw (h .1) (verdict-accepted (bytesOf n cut) .1 (lawful-reached cut (h .0))),
+)

@@ -27,6 +27,7 @@ module _ (log : List ℕ) where
     where
       count : ℕ
       count = getD log 1 0
+
       go : (b₁ b₂ b₃ b₄ : Bool) → leb 2 (length log) ≡ b₁ → eqb (getD log 0 0) 0x10 ≡ b₂ → leb 1 count ≡ b₃ → leb count 32 ≡ b₄
           → Opens log (cond (b₁ && b₂) (cond (b₃ && b₄) (Nodes count (place 2)) (OutOfRange 1)) (Missing 0))
       go false b₂ b₃ b₄ e₁ e₂ e₃ e₄ = opens-missing (inl (leb-false _ _ e₁))

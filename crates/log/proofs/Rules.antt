@@ -20,7 +20,7 @@ use Rattle.log.specs.declared.Node.{Node}
 use Rattle.log.specs.declared.MessageNumber.{MessageNumber}
 use Rattle.log.specs.declared.Record.{Record}
 use Rattle.log.specs.declared.Record.the-variants.{Idle, Mark, Send, Receipt}
-use Rattle.log.specs.Verdict.{eventOf, any, flies, fliesElsewhere, Rule, rule, mailRules, rules, firstBroken}
+use Rattle.log.specs.Verdict.{eventOf, any, full, crowded, flies, fliesElsewhere, Rule, rule, rules, firstBroken}
 use Rattle.log.specs.Table.{Breaks, breaks-12, breaks-6, breaks-6-to, breaks-7, breaks-8, breaks-9, breaks-10, breaks-11, Passes}
 
 -- ---- tests over the messages in flight
@@ -93,18 +93,18 @@ pub data Judged (n : ℕ) (cut : List Event) (p : ℕ) (r : Record) : Option Rul
 module _ (n : ℕ) (cut : List Event) (p : ℕ) where
   -- an event that neither sends nor receives
   judge-quiet : (r : Record) → ((i j m : ℕ) → eventOf r ≢ send i j m) → (nodeOf (eventOf r) < n → Allowed n cut (eventOf r))
-      → (full stranger : Bool) → leb 4096 (length cut) ≡ full → leb n (nodeOf (eventOf r)) ≡ stranger
-      → Judged n cut p r (firstBroken (rule 12 p full ∷ rule 6 (p + 1) stranger ∷ []))
-  judge-quiet r silent allowed true s e f = judged-breaks (breaks-12 (leb-true _ _ e))
-  judge-quiet r silent allowed false true e f = judged-breaks (breaks-6 (leb-false _ _ e) (leb-true _ _ f))
-  judge-quiet r silent allowed false false e f =
-      judged-passes (leb-false _ _ e, allowed (leb-false _ _ f), λ a b m h. absurd (silent a b m h))
+      → (b₁ b₂ : Bool) → full cut ≡ b₁ → leb n (nodeOf (eventOf r)) ≡ b₂
+      → Judged n cut p r (firstBroken (rule 12 p b₁ ∷ rule 6 (p + 1) b₂ ∷ []))
+  judge-quiet r silent allowed true b₂ e₁ e₂ = judged-breaks (breaks-12 (leb-true _ _ e₁))
+  judge-quiet r silent allowed false true e₁ e₂ = judged-breaks (breaks-6 (leb-false _ _ e₁) (leb-true _ _ e₂))
+  judge-quiet r silent allowed false false e₁ e₂ =
+      judged-passes (leb-false _ _ e₁, allowed (leb-false _ _ e₂), λ a b m h. absurd (silent a b m h))
 
   judge-send : (i j : Node) (m : MessageNumber) (b₁ b₂ b₃ b₄ b₅ b₆ : Bool)
-      → leb 4096 (length cut) ≡ b₁ → leb n (i .0) ≡ b₂ → leb n (j .0) ≡ b₃ → eqb (i .0) (j .0) ≡ b₄ → flies (m .0) cut ≡ b₅
-      → leb 128 (length (inFlight cut)) ≡ b₆
+      → full cut ≡ b₁ → leb n (i .0) ≡ b₂ → leb n (j .0) ≡ b₃ → eqb (i .0) (j .0) ≡ b₄ → flies (m .0) cut ≡ b₅
+      → crowded cut ≡ b₆
       → Judged n cut p (Send i j m)
-        (firstBroken (rule 12 p b₁ ∷ rule 6 (p + 1) b₂ ∷ rule 6 (p + 2) b₃ ∷ rule 7 (p + 2) b₄ ∷ rule 8 (p + 3) b₅ ∷ rule 9 p b₆ ∷ []))
+      (firstBroken (rule 12 p b₁ ∷ rule 6 (p + 1) b₂ ∷ rule 6 (p + 2) b₃ ∷ rule 7 (p + 2) b₄ ∷ rule 8 (p + 3) b₅ ∷ rule 9 p b₆ ∷ []))
   judge-send i j m true b₂ b₃ b₄ b₅ b₆ e₁ e₂ e₃ e₄ e₅ e₆ = judged-breaks (breaks-12 (leb-true _ _ e₁))
   judge-send i j m false true b₃ b₄ b₅ b₆ e₁ e₂ e₃ e₄ e₅ e₆ = judged-breaks (breaks-6 (leb-false _ _ e₁) (leb-true _ _ e₂))
   judge-send i j m false false true b₄ b₅ b₆ e₁ e₂ e₃ e₄ e₅ e₆ =
@@ -120,7 +120,7 @@ module _ (n : ℕ) (cut : List Event) (p : ℕ) where
       judged-passes (leb-false _ _ e₁, (leb-false _ _ e₂, leb-false _ _ e₃, eqb-false _ _ e₄, flies-false (m .0) cut e₅), λ a b l h. leb-false _ _ e₆)
 
   judge-receipt : (j : Node) (m : MessageNumber) (b₁ b₂ b₃ b₄ : Bool)
-      → leb 4096 (length cut) ≡ b₁ → leb n (j .0) ≡ b₂ → flies (m .0) cut ≡ b₃ → fliesElsewhere (m .0) (j .0) cut ≡ b₄
+      → full cut ≡ b₁ → leb n (j .0) ≡ b₂ → flies (m .0) cut ≡ b₃ → fliesElsewhere (m .0) (j .0) cut ≡ b₄
       → Judged n cut p (Receipt j m) (firstBroken (rule 12 p b₁ ∷ rule 6 (p + 1) b₂ ∷ rule 10 (p + 2) (not b₃) ∷ rule 11 (p + 2) b₄ ∷ []))
   judge-receipt j m true b₂ b₃ b₄ e₁ e₂ e₃ e₄ = judged-breaks (breaks-12 (leb-true _ _ e₁))
   judge-receipt j m false true b₃ b₄ e₁ e₂ e₃ e₄ = judged-breaks (breaks-6 (leb-false _ _ e₁) (leb-true _ _ e₂))
@@ -131,24 +131,40 @@ module _ (n : ℕ) (cut : List Event) (p : ℕ) where
       judged-breaks (breaks-11 (leb-false _ _ e₁) (leb-false _ _ e₂) (r .3) (r .4))
   judge-receipt j m false false true false e₁ e₂ e₃ e₄ =
       let r = flies-true (m .0) cut e₃ in
-      judged-passes
-      (leb-false _ _ e₁,
-       (leb-false _ _ e₂, (r .0, r .2, rw (elsewhere-false (m .0) (j .0) cut e₄ (r .3)) at (r .3))),
-       λ a b l h. absurd (let z : _≡_ {A = ℕ} 0 1 = cc in omega arith))
+      judged-passes (
+        leb-false _ _ e₁,
+        (leb-false _ _ e₂, (r .0, r .2, rw (elsewhere-false (m .0) (j .0) cut e₄ (r .3)) at (r .3))),
+        λ a b l h. absurd (let z : _≡_ {A = ℕ} 0 1 = cc in omega arith),
+      )
 
   -- every record is judged by the table
   pub judged : (r : Record) → Judged n cut p r (firstBroken (rules n cut p r))
-  unfolding mailRules
+  unfolding rules
   judged (Idle i) = judge-quiet (Idle i) (λ a b m h. let z : _≡_ {A = ℕ} 0 1 = cc in omega arith) (λ h. h) _ _ refl refl
   judged (Mark i) = judge-quiet (Mark i) (λ a b m h. let z : _≡_ {A = ℕ} 0 1 = cc in omega arith) (λ h. h) _ _ refl refl
   judged (Send i j m) = judge-send i j m _ _ _ _ _ _ refl refl refl refl refl refl
   judged (Receipt j m) = judge-receipt j m _ _ _ _ refl refl refl refl
 
-  -- and the table's row is the first broken rule
+  -- ---- and the table's row is the first broken rule
+
+  full-first : 4096 ≤ length cut → (r : Record) → firstBroken (rules n cut p r) ≡ some (rule 12 p true)
+  unfolding rules
+  full-first h (Idle i) = simp (le-leb _ _ h)
+  full-first h (Mark i) = simp (le-leb _ _ h)
+  full-first h (Send i j m) = simp (le-leb _ _ h)
+  full-first h (Receipt j m) = simp (le-leb _ _ h)
+
+  stranger-first : length cut < 4096 → (r : Record) → n ≤ nodeOf (eventOf r) → firstBroken (rules n cut p r) ≡ some (rule 6 (p + 1) true)
+  unfolding rules
+  stranger-first h (Idle i) k = simp (lt-leb _ _ h, le-leb _ _ k)
+  stranger-first h (Mark i) k = simp (lt-leb _ _ h, le-leb _ _ k)
+  stranger-first h (Send i j m) k = simp (lt-leb _ _ h, le-leb _ _ k)
+  stranger-first h (Receipt j m) k = simp (lt-leb _ _ h, le-leb _ _ k)
+
   pub breaks-first : {r : Record} {x q : ℕ} → Breaks n cut p r x q → firstBroken (rules n cut p r) ≡ some (rule x q true)
-  unfolding mailRules
-  breaks-first (breaks-12 h) = simp (le-leb _ _ h)
-  breaks-first (breaks-6 h k) = simp (lt-leb _ _ h, le-leb _ _ k)
+  unfolding rules
+  breaks-first (breaks-12 {r = r} h) = full-first h r
+  breaks-first (breaks-6 {r = r} h k) = stranger-first h r k
   breaks-first (breaks-6-to h a b) = simp (lt-leb _ _ h, lt-leb _ _ a, le-leb _ _ b)
   breaks-first (breaks-7 h a b s) = simp (lt-leb _ _ h, lt-leb _ _ a, lt-leb _ _ b, eq-eqb _ _ s)
   breaks-first (breaks-8 {m = m} h a b s f) = simp (lt-leb _ _ h, lt-leb _ _ a, lt-leb _ _ b, ne-eqb _ _ s, flies-yes (m .0) cut f)
@@ -159,7 +175,7 @@ module _ (n : ℕ) (cut : List Event) (p : ℕ) where
       simp (lt-leb _ _ h, lt-leb _ _ a, flies-yes (m .0) cut f, elsewhere-yes (m .0) (j .0) cut f s)
 
   pub passes-first : (r : Record) → Passes n cut r → firstBroken (rules n cut p r) ≡ none
-  unfolding mailRules
+  unfolding rules
   passes-first (Idle i) h = simp (lt-leb _ _ (h .0), lt-leb _ _ (h .1))
   passes-first (Mark i) h = simp (lt-leb _ _ (h .0), lt-leb _ _ (h .1))
   passes-first (Send i j m) (h, a, s) =

@@ -42,7 +42,7 @@ walk-turns (suc t) zero log n p cut h k = walk-end (suc t) log n p cut (omega ar
 walk-turns (suc t) (suc u) log n p cut h k =
     step-same (recordAt log p) n cut _ _
     (λ r c e. let f = read-forward log p e in
-      ap (afterRules (firstBroken (rules n cut p r))) (walk-turns t u log n (c .at) (eventOf r ∷ cut) (omega arith) (omega arith)))
+    ap (afterRules (firstBroken (rules n cut p r))) (walk-turns t u log n (c .at) (eventOf r ∷ cut) (omega arith) (omega arith)))
 
 module _ (log : List ℕ) (n : ℕ) where
   -- a record that passes is one turn

@@ -7,7 +7,7 @@ use mathlib.Core.List.{List, [], _∷_}
 use Prim.Native.Nat.{ℕ, zero, suc, _+_}
 use lib.Dec.{eqb, leb}
 use lib.ListN.{length}
-use Rattle.order.specs.Order.{Event, idle, mark, send, receipt, nodeOf}
+use Rattle.order.specs.Order.{Event, idle, mark, send, receipt}
 use Rattle.order.specs.Flight.{Message, inFlight}
 use Rattle.log.specs.declared.Record.{Record}
 use Rattle.log.specs.declared.Record.the-variants.{Idle, Mark, Send, Receipt}
@@ -36,6 +36,13 @@ abbrev pub any : (Message → Bool) → List Message → Bool
 any test [] = false
 any test (x ∷ xs) = test x || any test xs
 
+-- the cut has as many events as a log may have; and as many messages in flight
+abbrev pub full : List Event → Bool
+full cut = leb 4096 (length cut)
+
+abbrev pub crowded : List Event → Bool
+crowded cut = leb 128 (length (inFlight cut))
+
 -- message number m is in flight at the end of the cut; and it is in flight to another node than j
 abbrev pub flies : ℕ → List Event → Bool
 flies m cut = any (λ x. eqb (x .number) m) (inFlight cut)
@@ -52,27 +59,29 @@ pub record Rule : Type 0 where
 abbrev pub rule : ℕ → ℕ → Bool → Rule
 rule x p b = record { number = x; place = p; broken = b }
 
--- the further rules for a send and for a receipt at place p, for n nodes after the events of cut
-unfoldable pub mailRules : ℕ → List Event → ℕ → Record → List Rule
-mailRules n cut p (Idle i) = []
-mailRules n cut p (Mark i) = []
-mailRules n cut p (Send i j m) =
-    rule 6 (p + 2) (leb n (j .0))
+-- The rules for a whole record at place p, in the order in which they are tested, for n nodes after the events of cut.
+unfoldable pub rules : ℕ → List Event → ℕ → Record → List Rule
+rules n cut p (Idle i) =
+    rule 12 p (full cut)
+    ∷ rule 6 (p + 1) (leb n (i .0))
+    ∷ []
+rules n cut p (Mark i) =
+    rule 12 p (full cut)
+    ∷ rule 6 (p + 1) (leb n (i .0))
+    ∷ []
+rules n cut p (Send i j m) =
+    rule 12 p (full cut)
+    ∷ rule 6 (p + 1) (leb n (i .0)) ∷ rule 6 (p + 2) (leb n (j .0))
     ∷ rule 7 (p + 2) (eqb (i .0) (j .0))
     ∷ rule 8 (p + 3) (flies (m .0) cut)
-    ∷ rule 9 p (leb 128 (length (inFlight cut)))
+    ∷ rule 9 p (crowded cut)
     ∷ []
-mailRules n cut p (Receipt j m) =
-    rule 10 (p + 2) (not (flies (m .0) cut))
+rules n cut p (Receipt j m) =
+    rule 12 p (full cut)
+    ∷ rule 6 (p + 1) (leb n (j .0))
+    ∷ rule 10 (p + 2) (not (flies (m .0) cut))
     ∷ rule 11 (p + 2) (fliesElsewhere (m .0) (j .0) cut)
     ∷ []
-
--- the rules for a whole record, in the order in which they are tested
-abbrev pub rules : ℕ → List Event → ℕ → Record → List Rule
-rules n cut p r =
-    rule 12 p (leb 4096 (length cut))
-    ∷ rule 6 (p + 1) (leb n (nodeOf (eventOf r)))
-    ∷ mailRules n cut p r
 
 -- the first rule of the list that is broken
 abbrev pub firstBroken : List Rule → Option Rule

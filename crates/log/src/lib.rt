@@ -18,17 +18,19 @@ pub struct MessageNumber(pub u16);
 
 // One event of a barn, as its record gives it.
 pub enum Record {
-    // An event of no interest.
+    // An event of no interest, at the node.
     Idle(Node),
+    // A mark, at the node.
     Mark(Node),
-    // From the first node to the second.
+    // The first node sends to the second.
     Send(Node, Node, MessageNumber),
+    // The node receives.
     Receipt(Node, MessageNumber),
 }
 
 // The answer to reading the first record.
 pub enum Opening {
-    // How many nodes the barn has, and the place past the record.
+    // The node count, from 1 to 32, and the place past the record.
     Nodes(u8, Cursor),
     // There is no whole first record; the place is 0.
     Missing(usize),
@@ -42,7 +44,7 @@ pub enum Step {
     Read(Record, Cursor),
     // No byte is left.
     End,
-    // The byte at this place is no kind of record, or a second first record's.
+    // The byte at this place is no kind of event: unknown, or that of a first record.
     Unknown(usize),
     // The record that starts at this place runs past the end of the log.
     Short(usize),
@@ -119,7 +121,10 @@ fn receipt_at(log: &[u8], at: usize) -> Step
         return Step::Short(at);
     }
     let number = number_at(log, at + 2);
-    Step::Read(Record::Receipt(Node(log[at + 1]), number), Cursor { at: at + 4 })
+    Step::Read(
+        Record::Receipt(Node(log[at + 1]), number),
+        Cursor { at: at + 4 },
+    )
 }
 
 // The message number at a place, low byte first.
@@ -127,7 +132,9 @@ fn number_at(log: &[u8], at: usize) -> MessageNumber
     requires { ⌜ at + 1 < length (now log) ⌝ }
     ensures { λ r. ⌜ r ≡ numberAt (now (log .entry)) at ⌝ }
 {
-    MessageNumber(log[at] as u16 + 256 * (log[at + 1] as u16))
+    let low = log[at] as u16;
+    let high = log[at + 1] as u16;
+    MessageNumber(low + 256 * high)
 }
 
 // The node count of the first record and the place past it, or why there is none.

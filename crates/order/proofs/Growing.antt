@@ -49,9 +49,10 @@ module _ {x : Event} {past : List Event} {e : ℕ} (old : e < length past) where
   numbered-down m = (at-down old (m .0), counts-same (λ p h a. at-down (omega arith) a) (λ p h a. at-tail a) (m .1))
 
   nearest-up : {f : ℕ} → Nearest past f e → Nearest (x ∷ past) f e
-  nearest-up m =
-      (before-up (m .0),
-       λ k g a b c. let h = before-forward c in m .1 k g (at-down (omega arith) a) (before-down (omega arith) b) (before-down old c))
+  nearest-up m = (
+    before-up (m .0),
+    λ k g a b c. let h = before-forward c in m .1 k g (at-down (omega arith) a) (before-down (omega arith) b) (before-down old c),
+  )
 
   nearest-down : {f : ℕ} → Nearest (x ∷ past) f e → Nearest past f e
   nearest-down m = (before-down old (m .0), λ k g a b c. m .1 k g (at-tail a) (before-up b) (before-up c))

@@ -1,21 +1,19 @@
 -- The events of an accepted log are lawful: sound, at most 4,096, and at most 128 messages in flight at every cut. By
 -- induction on what was reached.
 -- Assumes nothing.
-use mathlib.Core.Path.{_≡_, refl, sym, _∙_, ap, subst}
-use mathlib.Core.Logic.{_↔_}
-use mathlib.Core.List.{List, [], _∷_, _++_}
-use Prim.Native.Nat.{ℕ, zero, suc, _+_, _*_, _/_, _%_, _<_, _≤_}
-use native.Mathlib.Nat.{le-refl}
+use mathlib.Core.Path.{_≡_, refl, subst}
+use mathlib.Core.List.{List, _∷_}
+use Prim.Native.Nat.{ℕ, _≤_}
 use native.Mathlib.Omega.{arith}
-use lib.ListN.{length, getD, take}
-use Rattle.order.specs.Order.{Event, idle, mark, send, receipt, Sound, sound-nil, sound-cons}
-use Rattle.order.specs.Flight.{without, inFlight}
+use lib.ListN.{length}
+use Rattle.order.specs.Order.{Event, Sound, sound-nil, sound-cons}
+use Rattle.order.specs.Flight.{inFlight}
 use Rattle.order.proofs.Flight.{without-length}
 use Rattle.log.specs.declared.Record.{Record}
 use Rattle.log.specs.declared.Record.the-variants.{Idle, Mark, Send, Receipt}
-use Rattle.log.specs.Verdict.{Verdict, accepted, eventOf, verdict}
+use Rattle.log.specs.Verdict.{accepted, eventOf, verdict}
 use Rattle.log.specs.Table.{Passes, Reached, reached-first, reached-next}
-use Rattle.log.specs.Lawful.{Lawful, recordOf, bytesOf}
+use Rattle.log.specs.Lawful.{Lawful}
 use Rattle.log.proofs.FirstRecord.{nodes-there}
 use Rattle.log.proofs.Verdict.{verdict-accepted}
 use Rattle.log.proofs.Cuts.{reached-cut}

@@ -2,10 +2,9 @@
 -- computed.
 -- Assumes nothing.
 use mathlib.Core.Path.{_≡_, refl}
-use mathlib.Core.Bool.{Bool}
 use mathlib.Core.List.{List, [], _∷_, map}
 use Prim.Native.Nat.{ℕ}
-use Rattle.order.specs.Order.{Event, idle, mark, send, receipt}
+use Rattle.order.specs.Order.{Event, mark, send, receipt}
 use Rattle.order.specs.Flight.{without, inFlight}
 use Rattle.log.specs.Record.{wholeAt, recordAt, openingOf}
 use Rattle.log.specs.Verdict.{Verdict, refused, accepted, rules, walk, verdict}
@@ -44,6 +43,11 @@ cases =
     ∷ case (0x10 ∷ 1 ∷ 0x12 ∷ 0 ∷ 0x12 ∷ 0 ∷ []) (accepted 1 (mark 0 ∷ mark 0 ∷ []))
     ∷ case logA (accepted 3 cutA)
     ∷ case logB (accepted 2 cutB)
+    -- and of its table of refusals: a later 0x10, an unknown kind, a record cut short, a destination that is no node
+    ∷ case (0x10 ∷ 1 ∷ 0x11 ∷ 0 ∷ 0x10 ∷ 1 ∷ []) (refused 4 4)
+    ∷ case (0x10 ∷ 1 ∷ 0x16 ∷ []) (refused 4 2)
+    ∷ case (0x10 ∷ 2 ∷ 0x13 ∷ 0 ∷ 1 ∷ 1 ∷ []) (refused 5 2)
+    ∷ case (0x10 ∷ 2 ∷ 0x13 ∷ 0 ∷ 2 ∷ 1 ∷ 0 ∷ []) (refused 6 4)
     ∷ []
 
 pub cases-hold : map (λ r. verdict (r .log)) cases ≡ map (λ (r : Case). r .says) cases

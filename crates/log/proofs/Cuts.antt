@@ -1,10 +1,10 @@
 -- Every cut of an accepted log after a whole record is an accepted log, with the shorter cut of events: what was reached at
 -- a place depends on the bytes before it alone.
 -- Assumes nothing.
-use mathlib.Core.Path.{_≡_, refl, sym, _∙_, ap, subst}
+use mathlib.Core.Path.{_≡_, sym, _∙_, subst}
 use mathlib.Core.List.{List, [], _∷_, _++_, append-assoc}
 use mathlib.Core.Option.{Option, none, some}
-use Prim.Native.Nat.{ℕ, zero, suc, _+_, _<_, _≤_}
+use Prim.Native.Nat.{ℕ, zero, suc, _<_, _≤_}
 use native.Mathlib.Nat.{le-refl}
 use native.Mathlib.Omega.{arith}
 use lib.ListN.{length, getD, take}
@@ -16,7 +16,7 @@ use Rattle.log.specs.declared.Step.{Step}
 use Rattle.log.specs.declared.Step.the-variants.{Read, End, Unknown, Short}
 use Rattle.log.specs.declared.Opening.the-variants.{Nodes}
 use Rattle.log.specs.Record.{recordAt, openingOf}
-use Rattle.log.specs.Verdict.{Verdict, refused, accepted, eventOf, Rule, rules, firstBroken, afterStep, afterRules, walk, verdict}
+use Rattle.log.specs.Verdict.{Verdict, accepted, eventOf, Rule, rules, firstBroken, afterStep, afterRules, walk, verdict}
 use Rattle.log.specs.Table.{Reached, reached-first, reached-next, Ends, ends-first, ends-next, refused-rule}
 use Rattle.log.proofs.Stands.{read-forward, read-same}
 use Rattle.log.proofs.FirstRecord.{nodes-there, nodes-same}

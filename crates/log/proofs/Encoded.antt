@@ -2,18 +2,15 @@
 -- and the bytes of a lawful row are read, record by record, as its events.
 -- Assumes nothing.
 use mathlib.Core.Path.{_≡_, refl, sym, _∙_, ap, ap₂, subst}
-use mathlib.Core.Logic.{_↔_, _≢_}
-use mathlib.Core.Bool.{Bool, true, false, cond}
-use mathlib.Core.List.{List, [], _∷_, _++_, List·Memᴰ, List·Memᴰ·head, List·Memᴰ·tail}
-use Prim.Native.Nat.{ℕ, zero, suc, _+_, _*_, _/_, _%_, _<_, _≤_}
+use mathlib.Core.Logic.{_↔_}
+use mathlib.Core.List.{List, [], _∷_, _++_}
+use Prim.Native.Nat.{ℕ, suc, _+_, _*_, _/_, _%_, _≤_}
 use native.Mathlib.Nat.{le-refl}
 use native.Mathlib.Omega.{arith}
-use lib.Dec.{eqb}
-use lib.ListN.{length, getD, take, drop, length-append, length-drop, List·getD-append}
-use lib.Seq.{take-length, take-add, drop-cons, length-take-le, getD-take, getD-drop, getD-append-add, ext-getD}
-use borrow.Author.Tests.{ne-eqb}
-use Rattle.order.specs.Order.{Event, idle, mark, send, receipt, Allowed, Sound, sound-nil, sound-cons}
-use Rattle.order.specs.Flight.{Message, without, inFlight}
+use lib.ListN.{length, getD, take, drop, length-append, List·getD-append}
+use lib.Seq.{take-length, take-add, drop-cons, getD-append-add}
+use Rattle.order.specs.Order.{Event, idle, mark, send, receipt, Allowed, Sound, sound-cons}
+use Rattle.order.specs.Flight.{inFlight}
 use Rattle.order.proofs.Flight.{without-none, listed-flying}
 use Rattle.order.proofs.Growing.{sound-cut}
 use Rattle.log.specs.declared.Cursor.{Cursor}
@@ -21,13 +18,13 @@ use Rattle.log.specs.declared.Record.{Record}
 use Rattle.log.specs.declared.Record.the-variants.{Idle, Mark, Send, Receipt}
 use Rattle.log.specs.declared.Step.the-variants.{Read}
 use Rattle.log.specs.declared.Opening.the-variants.{Nodes}
-use Rattle.log.specs.Record.{place, recordAt, openingOf}
+use Rattle.log.specs.Record.{place, recordAt}
 use Rattle.log.specs.Verdict.{accepted, eventOf, verdict}
 use Rattle.log.specs.Table.{Passes, Reached, reached-first, reached-next}
 use Rattle.log.specs.Lawful.{Lawful, Bytes, recordOf, bytesOf}
-use Rattle.log.proofs.Stands.{Stands, stands, stands-idle, stands-mark, stands-send, stands-receipt, stands-read, read-forward}
+use Rattle.log.proofs.Stands.{Stands, stands, stands-idle, stands-mark, stands-send, stands-receipt, stands-read}
 use Rattle.log.proofs.FirstRecord.{Opens, opens, opens-nodes, opens-read}
-use Rattle.log.proofs.Verdict.{reached-bound, verdict-accepted}
+use Rattle.log.proofs.Verdict.{verdict-accepted}
 use Rattle.log.proofs.Cuts.{reached-same}
 use Rattle.log.proofs.Accepted.{accepted-lawful}
 

@@ -12,7 +12,7 @@ use Rattle.log.specs.declared.Cursor.{Cursor}
 use Rattle.log.specs.declared.Record.{Record}
 use Rattle.log.specs.declared.Step.the-variants.{Read}
 use Rattle.log.specs.Record.{numberAt, recordAt}
-use Rattle.log.specs.Table.{Breaks, breaks-12, breaks-6, breaks-6-to, breaks-7, breaks-8, breaks-9, breaks-10, breaks-11, Reached, Refused, refused-2, refused-3, refused-4, refused-5, refused-rule}
+use Rattle.log.specs.Table.{Breaks, breaks-12, breaks-6, breaks-6-to, breaks-7, breaks-8, breaks-9, breaks-10, breaks-11, Refused, refused-2, refused-3, refused-4, refused-5, refused-rule}
 use Rattle.log.proofs.Stands.{Stands, stands, stands-idle, stands-mark, stands-send, stands-receipt, read-forward, unknown-there, short-there}
 use Rattle.log.proofs.FirstRecord.{missing-there, range-there}
 

@@ -1,14 +1,12 @@
 -- The reader's promise, kind by kind, and that reading goes forward: nothing above looks into its definition again.
 -- Assumes nothing.
-use mathlib.Core.Path.{_≡_, refl, sym, _∙_}
+use mathlib.Core.Path.{_≡_}
 use mathlib.Core.List.{List}
 use Prim.Native.Nat.{ℕ, _+_, _-_, _<_, _≤_}
 use native.Mathlib.Omega.{arith}
 use lib.ListN.{length, getD}
 use borrow.Author.Tests.{le-leb, lt-leb, ne-eqb}
 use Rattle.log.specs.declared.Record.{Record}
-use Rattle.log.specs.declared.Record.the-variants.{Idle, Mark, Send, Receipt}
-use Rattle.log.specs.declared.Step.{Step}
 use Rattle.log.specs.declared.Step.the-variants.{Read, End, Unknown, Short}
 use Rattle.log.specs.Record.{place, wholeAt, idleAt, markAt, sendAt, receiptAt, recordAt}
 

@@ -2,17 +2,16 @@
 -- its outcome is the fact that the row states.
 -- Assumes nothing.
 use mathlib.Core.Path.{_≡_, refl, sym, _∙_, ap}
-use mathlib.Core.Logic.{_⊎_, inl, inr, _≢_, ⊎-elim}
+use mathlib.Core.Logic.{_≢_, ⊎-elim}
 use mathlib.Core.Bool.{Bool, true, false, not, _&&_, _||_, true≢false, false≢true, not-eq-not}
 use mathlib.Core.Option.{Option, none, some}
 use mathlib.Core.List.{List, [], _∷_, List·Memᴰ, List·Memᴰ·head, List·Memᴰ·tail, List·Memᴰ·not-nil, List·Memᴰ·cases-cons}
 use Prim.Native.Nat.{ℕ, _+_, _<_, _≤_}
-use native.Mathlib.Decide.{ℕ-discrete}
 use native.Mathlib.Omega.{arith}
 use lib.Dec.{eqb, leb}
 use lib.ListN.{length}
 use borrow.Author.Tests.{le-leb, lt-leb, leb-true, leb-false, eq-eqb, ne-eqb, eqb-true, eqb-false, not-true, not-false}
-use Rattle.order.specs.Order.{Event, idle, mark, send, receipt, nodeOf, Flying, Allowed}
+use Rattle.order.specs.Order.{Event, send, nodeOf, Flying, Allowed}
 use Rattle.order.specs.Flight.{Message, inFlight}
 use Rattle.order.proofs.Places.{flying-unique}
 use Rattle.order.proofs.Flight.{flying-listed, listed-flying, message}

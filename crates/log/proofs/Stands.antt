@@ -1,21 +1,18 @@
 -- What the bytes are where the reader gives an answer, case by case, and from it: reading goes forward, stays within the
 -- log, and sees only the bytes of the record. By deciding the kind and the length.
 -- Assumes nothing.
-use mathlib.Core.Path.{_≡_, refl, sym, _∙_, ap, ap₂, subst}
-use mathlib.Core.Logic.{_⊎_, inl, inr, ⊎-elim}
+use mathlib.Core.Path.{_≡_, refl, sym, _∙_, subst}
 use mathlib.Core.List.{List}
-use Prim.Native.Nat.{ℕ, _+_, _-_, _*_, _<_, _≤_}
+use Prim.Native.Nat.{ℕ, _+_, _-_, _<_, _≤_}
 use native.Mathlib.Decide.{ℕ-discrete, decLe}
 use native.Mathlib.Omega.{arith}
 use lib.ListN.{length, getD}
 use Rattle.log.specs.declared.Cursor.{Cursor}
-use Rattle.log.specs.declared.Node.{Node}
-use Rattle.log.specs.declared.MessageNumber.{MessageNumber}
 use Rattle.log.specs.declared.Record.{Record}
 use Rattle.log.specs.declared.Record.the-variants.{Idle, Mark, Send, Receipt}
 use Rattle.log.specs.declared.Step.{Step}
 use Rattle.log.specs.declared.Step.the-variants.{Read, End, Unknown, Short}
-use Rattle.log.specs.Record.{place, nodeAt, numberAt, wholeAt, idleAt, markAt, sendAt, receiptAt, recordAt}
+use Rattle.log.specs.Record.{place, nodeAt, numberAt, wholeAt, recordAt}
 use Rattle.log.proofs.Reader.{record-end, record-idle, record-mark, record-send, record-receipt, record-unknown, whole-read, whole-short}
 
 -- the bytes at place p behind an answer

@@ -2,9 +2,8 @@
 -- reached: by induction on the turns, since each record ends past its start.
 -- Assumes nothing.
 use mathlib.Core.Path.{_≡_, refl, sym, _∙_, ap}
-use mathlib.Core.List.{List, [], _∷_, _++_, append-assoc}
-use mathlib.Core.Option.{Option, none, some}
-use Prim.Native.Nat.{ℕ, zero, suc, _+_, _<_, _≤_}
+use mathlib.Core.List.{List, [], _∷_}
+use Prim.Native.Nat.{ℕ, zero, suc, _+_, _≤_}
 use native.Mathlib.Omega.{arith}
 use lib.ListN.{length}
 use Rattle.order.specs.Order.{Event}
@@ -12,9 +11,8 @@ use Rattle.log.specs.declared.Cursor.{Cursor}
 use Rattle.log.specs.declared.Record.{Record}
 use Rattle.log.specs.declared.Step.{Step}
 use Rattle.log.specs.declared.Step.the-variants.{Read, End, Unknown, Short}
-use Rattle.log.specs.declared.Opening.the-variants.{Nodes}
-use Rattle.log.specs.Record.{recordAt, openingOf}
-use Rattle.log.specs.Verdict.{Verdict, refused, accepted, eventOf, Rule, rules, firstBroken, afterOpening, afterStep, afterRules, walk, verdict}
+use Rattle.log.specs.Record.{recordAt}
+use Rattle.log.specs.Verdict.{Verdict, accepted, eventOf, rules, firstBroken, afterStep, afterRules, walk, verdict}
 use Rattle.log.specs.Table.{Passes, Reached, reached-first, reached-next}
 use Rattle.log.proofs.Reader.{record-end}
 use Rattle.log.proofs.Stands.{read-forward}

@@ -1,14 +1,14 @@
 -- Before is a strict order that goes forward in the log, and it orders the events of one node: by induction on the chain
 -- of links, and on the cut.
 -- Assumes nothing.
-use mathlib.Core.Path.{_≡_, refl, sym, _∙_, subst}
-use mathlib.Core.Logic.{_⊎_, inl, inr, ⊎-elim}
+use mathlib.Core.Path.{_≡_, refl, sym, subst}
+use mathlib.Core.Logic.{inl, inr}
 use mathlib.Core.List.{List, _∷_}
 use Prim.Native.Nat.{ℕ, _<_, _≤_}
 use native.Mathlib.Decide.{ℕ-discrete}
 use native.Mathlib.Omega.{arith}
 use lib.ListN.{length}
-use Rattle.order.specs.Order.{Event, nodeOf, At, at-head, at-tail, Last, last-head, last-tail, Link, link-tail, link-node, Before, direct, onward, Within}
+use Rattle.order.specs.Order.{Event, nodeOf, At, at-head, at-tail, Last, last-head, last-tail, link-tail, link-node, Before, direct, onward, Within}
 use Rattle.order.proofs.Places.{at-bound, at-down, link-forward, link-down}
 
 -- ---- a strict order

@@ -6,8 +6,8 @@ use mathlib.Core.List.{List, [], _∷_, _++_}
 use Prim.Native.Nat.{ℕ, _<_, _≤_}
 use native.Mathlib.Omega.{arith}
 use lib.ListN.{length, length-append}
-use Rattle.order.specs.Order.{Event, At, at-tail, Link, link-tail, Before, Counts, counts-yes, counts-no, Stamp, Numbered, Nearest, Sound, sound-cons}
-use Rattle.order.proofs.Places.{at-bound, at-down, link-down}
+use Rattle.order.specs.Order.{Event, At, at-tail, Link, link-tail, Before, counts-yes, counts-no, Stamp, Numbered, Nearest, Sound, sound-cons}
+use Rattle.order.proofs.Places.{at-down, link-down}
 use Rattle.order.proofs.Before.{before-forward, before-up, before-down, within-le, within-up, within-down}
 use Rattle.order.proofs.Counts.{counts-same}
 
@@ -48,14 +48,17 @@ module _ {x : Event} {past : List Event} {e : ℕ} (old : e < length past) where
   numbered-down : {k c : ℕ} → Numbered (x ∷ past) k e c → Numbered past k e c
   numbered-down m = (at-down old (m .0), counts-same (λ p h a. at-down (omega arith) a) (λ p h a. at-tail a) (m .1))
 
-  nearest-up : {f : ℕ} → Nearest past f e → Nearest (x ∷ past) f e
+  nearest-up : {k f : ℕ} → Nearest past k f e → Nearest (x ∷ past) k f e
   nearest-up m = (
-    before-up (m .0),
-    λ k g a b c. let h = before-forward c in m .1 k g (at-down (omega arith) a) (before-down (omega arith) b) (before-down old c),
+    at-tail (m .0),
+    before-up (m .1),
+    λ l g a b c. let h = before-forward c in m .2 l g (at-down (omega arith) a) (before-down (omega arith) b) (before-down old c),
   )
 
-  nearest-down : {f : ℕ} → Nearest (x ∷ past) f e → Nearest past f e
-  nearest-down m = (before-down old (m .0), λ k g a b c. m .1 k g (at-tail a) (before-up b) (before-up c))
+  nearest-down : {k f : ℕ} → Nearest (x ∷ past) k f e → Nearest past k f e
+  nearest-down m =
+      let h = before-forward (m .1) in
+      (at-down (omega arith) (m .0), before-down old (m .1), λ l g a b c. m .2 l g (at-tail a) (before-up b) (before-up c))
 
 module _ (past later : List Event) {e : ℕ} (old : e < length past) where
   pub stamp-grown : {k c : ℕ} → Stamp past e k c ↔ Stamp (later ++ past) e k c
@@ -64,8 +67,8 @@ module _ (past later : List Event) {e : ℕ} (old : e < length past) where
   pub numbered-grown : {k c : ℕ} → Numbered past k e c ↔ Numbered (later ++ past) k e c
   numbered-grown {k} {c} = grown (λ es. Numbered es k e c) past (λ x es l. (numbered-up (omega arith), numbered-down (omega arith))) later
 
-  pub nearest-grown : {f : ℕ} → Nearest past f e ↔ Nearest (later ++ past) f e
-  nearest-grown {f} = grown (λ es. Nearest es f e) past (λ x es l. (nearest-up (omega arith), nearest-down (omega arith))) later
+  pub nearest-grown : {k f : ℕ} → Nearest past k f e ↔ Nearest (later ++ past) k f e
+  nearest-grown {k} {f} = grown (λ es. Nearest es k f e) past (λ x es l. (nearest-up (omega arith), nearest-down (omega arith))) later
 
 -- ---- sound cuts
 

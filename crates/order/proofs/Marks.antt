@@ -3,10 +3,9 @@
 -- Assumes nothing.
 use mathlib.Core.Path.{_≡_, refl}
 use mathlib.Core.List.{List}
-use Prim.Native.Nat.{ℕ, suc, _<_, _≤_}
-use native.Mathlib.Decide.{decLt}
+use Prim.Native.Nat.{ℕ, _<_}
 use native.Mathlib.Omega.{arith}
-use Rattle.order.specs.Order.{Event, mark, At, Before, Numbered, Nearest, Stamp}
+use Rattle.order.specs.Order.{Event, Numbered, Nearest, Stamp}
 use Rattle.order.proofs.Before.{node-order}
 use Rattle.order.proofs.Counts.{counts-unique, counts-rise}
 
@@ -32,8 +31,8 @@ numbered-place {f = f} {g = g} m n =
     one-place f g (λ h. let l = numbered-rises m n h in omega arith) (λ h. let l = numbered-rises n m h in omega arith)
 
 -- at most one direct predecessor on each node
-pub nearest-unique : {es : List Event} {k f g e : ℕ} → At es f (mark k) → At es g (mark k) → Nearest es f e → Nearest es g e → f ≡ g
-nearest-unique {k = k} {f = f} {g = g} a b m n =
+pub nearest-unique : {es : List Event} {k f g e : ℕ} → Nearest es k f e → Nearest es k g e → f ≡ g
+nearest-unique {k = k} {f = f} {g = g} m n =
     one-place f g
-    (λ h. m .1 k g b (node-order refl a b h) (n .0))
-    (λ h. n .1 k f a (node-order refl b a h) (m .0))
+    (λ h. m .2 k g (n .0) (node-order refl (m .0) (n .0) h) (n .1))
+    (λ h. n .2 k f (m .0) (node-order refl (n .0) (m .0) h) (m .1))

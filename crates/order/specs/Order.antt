@@ -77,9 +77,9 @@ Stamp es e k c = Counts (λ p. At es p (mark k) × Within es e p) (length es) c
 abbrev pub Numbered : List Event → ℕ → ℕ → ℕ → Type 0
 Numbered es k f c = At es f (mark k) × Counts (λ p. At es p (mark k)) (suc f) c
 
--- f is a direct predecessor of e, where both are marks: f is before e, and no mark g has f before g and g before e
-abbrev pub Nearest : List Event → ℕ → ℕ → Type 0
-Nearest es f e = Before es f e × ((k g : ℕ) → At es g (mark k) → Before es f g → ¬ Before es g e)
+-- the event at f, of node k, is a direct predecessor of e: f is a mark before e, and no mark g has f before g and g before e
+abbrev pub Nearest : List Event → ℕ → ℕ → ℕ → Type 0
+Nearest es k f e = At es f (mark k) × Before es f e × ((l g : ℕ) → At es g (mark l) → Before es f g → ¬ Before es g e)
 
 -- The event may follow the cut in a barn of n nodes: its nodes are below n; a send goes to another node, and its number
 -- is not in flight; a receipt is of a message in flight to its node.

@@ -1,7 +1,7 @@
 -- The events of an accepted log are lawful: sound, at most 4,096, and at most 128 messages in flight at every cut. By
 -- induction on what was reached.
 -- Assumes nothing.
-use mathlib.Core.Path.{_≡_, refl, subst}
+use mathlib.Core.Path.{_≡_, subst}
 use mathlib.Core.List.{List, _∷_}
 use Prim.Native.Nat.{ℕ, _≤_}
 use native.Mathlib.Omega.{arith}
@@ -37,7 +37,7 @@ passes-flying : (n : ℕ) (cut : List Event) (r : Record) → Passes n cut r →
 unfolding inFlight
 passes-flying n cut (Idle i) h k = k
 passes-flying n cut (Mark i) h k = k
-passes-flying n cut (Send i j m) h k = omega (arith, h .2 (i .0) (j .0) (m .0) refl, without-length (m .0) (inFlight cut))
+passes-flying n cut (Send i j m) h k = omega (arith, h .2, without-length (m .0) (inFlight cut))
 passes-flying n cut (Receipt j m) h k = omega (arith, without-length (m .0) (inFlight cut))
 
 pub reached-flying : {log : List ℕ} {n p : ℕ} {cut : List Event} → Reached log n p cut → length (inFlight cut) ≤ 128

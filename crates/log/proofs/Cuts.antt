@@ -22,7 +22,7 @@ use Rattle.log.proofs.Stands.{read-forward, read-same}
 use Rattle.log.proofs.FirstRecord.{nodes-there, nodes-same}
 use Rattle.log.proofs.Rules.{Judged, judged-breaks, judged-passes, judged}
 use Rattle.log.proofs.Walk.{reached-walk}
-use Rattle.log.proofs.Verdict.{reached-bound, verdict-accepted, verdict-refused}
+use Rattle.log.proofs.Verdict.{not-accepted, reached-bound, verdict-accepted, verdict-refused}
 
 -- ---- the bytes before a place decide what was reached there
 
@@ -74,14 +74,14 @@ module _ (log : List ℕ) (n : ℕ) where
 
       by-rules : (o : Option Rule) (r : Record) (v : Verdict) → (v ≡ accepted n cut → (later : List Event) × (cut ≡ later ++ eventOf r ∷ past))
           → afterRules o v ≡ accepted n cut → Adds
-      by-rules (some x) r v more e = absurd (let z : _≡_ {A = ℕ} 0 1 = cc in omega arith)
+      by-rules (some x) r v more e = not-accepted e
       by-rules none r v more e = let m = more e in (m .0 ++ (eventOf r ∷ []), m .1 ∙ sym (append-assoc (m .0) (eventOf r ∷ []) past))
 
       by-step : (s : Step) → ((r : Record) (c : Cursor) → walk turns log n (c .at) (eventOf r ∷ past) ≡ accepted n cut → (later : List Event) × (cut ≡ later ++ eventOf r ∷ past))
           → afterStep s n past (λ r q. afterRules (firstBroken (rules n past p r)) (walk turns log n q (eventOf r ∷ past))) ≡ accepted n cut → Adds
       by-step End more e = ([], cc)
-      by-step (Unknown q) more e = absurd (let z : _≡_ {A = ℕ} 0 1 = cc in omega arith)
-      by-step (Short q) more e = absurd (let z : _≡_ {A = ℕ} 0 1 = cc in omega arith)
+      by-step (Unknown q) more e = not-accepted e
+      by-step (Short q) more e = not-accepted e
       by-step (Read r c) more e = by-rules (firstBroken (rules n past p r)) r _ (more r c) e
 
 module _ (log : List ℕ) (n : ℕ) (cut : List Event) (ok : verdict log ≡ accepted n cut) where
@@ -97,7 +97,7 @@ module _ (log : List ℕ) (n : ℕ) (cut : List Event) (ok : verdict log ≡ acc
       go (a .0) (a .1) (judged n (a .0) p r)
     where
       go : (past : List Event) → Reached log n p past → {o : Option Rule} → Judged n past p r o → (more : List Event) × Reached log n (c .at) more
-      go past here (judged-breaks b) = absurd (let f = verdict-refused log .1 (refused-rule here e b) in let z : _≡_ {A = ℕ} 0 1 = cc in omega arith)
+      go past here (judged-breaks b) = not-accepted (sym (verdict-refused log .1 (refused-rule here e b)) ∙ ok)
       go past here (judged-passes h) = (_, reached-next here e h)
 
   -- the log cut after any whole record is accepted, with an earlier cut of the events

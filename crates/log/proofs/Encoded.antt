@@ -123,12 +123,12 @@ lawful-passes n e past l = go e (l .few-events) (sound-head (l .sound)) (l .few-
     sound-head (sound-cons a h) = a
 
     go : (e : Event) → length (e ∷ past) ≤ 4096 → Allowed n past e → length (inFlight (e ∷ past)) ≤ 128 → Passes n past (recordFor e)
-    go (idle i) many ok full = (many, ok, λ a b m h. absurd (let z : _≡_ {A = ℕ} 0 1 = cc in omega arith))
-    go (mark i) many ok full = (many, ok, λ a b m h. absurd (let z : _≡_ {A = ℕ} 0 1 = cc in omega arith))
+    go (idle i) many ok full = (many, ok, tt)
+    go (mark i) many ok full = (many, ok, tt)
     go (send i j m) many ok full =
         let same = without-none m (inFlight past) (λ x k q. ok .3 (x .from) (x .to) (x .sent) (rw q at (listed-flying past x k))) in
-        (many, ok, λ a b l h. rw same at full)
-    go (receipt j m) many ok full = (many, ok, λ a b m h. absurd (let z : _≡_ {A = ℕ} 0 1 = cc in omega arith))
+        (many, ok, rw same at full)
+    go (receipt j m) many ok full = (many, ok, tt)
 
 lawful-tail : {n : ℕ} {e : Event} {past : List Event} → Lawful n (e ∷ past) → Lawful n past
 lawful-tail {n} {e} {past} l = record {

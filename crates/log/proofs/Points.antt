@@ -61,3 +61,21 @@ refused-within {log} (refused-rule {n = n} {p = p} {cut = cut} here e b) =
     let h = breaks-point log n cut p e b in
     let f = read-forward log p e in
     inr (omega arith)
+
+-- the numbers of refusal are 2 to 12
+pub refused-number : {log : List ℕ} {x q : ℕ} → Refused log x q → (2 ≤ x) × (x ≤ 12)
+refused-number (refused-2 e) = omega arith
+refused-number (refused-3 e) = omega arith
+refused-number (refused-4 here e) = omega arith
+refused-number (refused-5 here e) = omega arith
+refused-number (refused-rule here e b) = go b
+  where
+    go : {n p x q : ℕ} {cut : List Event} {r : Record} → Breaks n cut p r x q → (2 ≤ x) × (x ≤ 12)
+    go (breaks-12 a) = omega arith
+    go (breaks-6 a b) = omega arith
+    go (breaks-6-to a b c) = omega arith
+    go (breaks-7 a b c d) = omega arith
+    go (breaks-8 a b c d e) = omega arith
+    go (breaks-9 a b c) = omega arith
+    go (breaks-10 a b c) = omega arith
+    go (breaks-11 a b c d) = omega arith

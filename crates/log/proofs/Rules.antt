@@ -7,11 +7,10 @@ use mathlib.Core.Bool.{Bool, true, false, not, _&&_, _||_, true≢false, false�
 use mathlib.Core.Option.{Option, none, some}
 use mathlib.Core.List.{List, [], _∷_, List·Memᴰ, List·Memᴰ·head, List·Memᴰ·tail, List·Memᴰ·not-nil, List·Memᴰ·cases-cons}
 use Prim.Native.Nat.{ℕ, _+_, _<_, _≤_}
-use native.Mathlib.Omega.{arith}
 use lib.Dec.{eqb, leb}
 use lib.ListN.{length}
 use borrow.Author.Tests.{le-leb, lt-leb, leb-true, leb-false, eq-eqb, ne-eqb, eqb-true, eqb-false, not-true, not-false}
-use Rattle.order.specs.Order.{Event, send, nodeOf, Flying, Allowed}
+use Rattle.order.specs.Order.{Event, nodeOf, Flying, Allowed}
 use Rattle.order.specs.Flight.{Message, inFlight}
 use Rattle.order.proofs.Places.{flying-unique}
 use Rattle.order.proofs.Flight.{flying-listed, listed-flying, message}
@@ -20,7 +19,7 @@ use Rattle.log.specs.declared.MessageNumber.{MessageNumber}
 use Rattle.log.specs.declared.Record.{Record}
 use Rattle.log.specs.declared.Record.the-variants.{Idle, Mark, Send, Receipt}
 use Rattle.log.specs.Verdict.{eventOf, any, full, crowded, flies, fliesElsewhere, Rule, rule, rules, firstBroken}
-use Rattle.log.specs.Table.{Breaks, breaks-12, breaks-6, breaks-6-to, breaks-7, breaks-8, breaks-9, breaks-10, breaks-11, Passes}
+use Rattle.log.specs.Table.{Breaks, breaks-12, breaks-6, breaks-6-to, breaks-7, breaks-8, breaks-9, breaks-10, breaks-11, Room, Passes}
 
 -- ---- tests over the messages in flight
 
@@ -91,13 +90,13 @@ pub data Judged (n : ℕ) (cut : List Event) (p : ℕ) (r : Record) : Option Rul
 
 module _ (n : ℕ) (cut : List Event) (p : ℕ) where
   -- an event that neither sends nor receives
-  judge-quiet : (r : Record) → ((i j m : ℕ) → eventOf r ≢ send i j m) → (nodeOf (eventOf r) < n → Allowed n cut (eventOf r))
+  judge-quiet : (r : Record) → (nodeOf (eventOf r) < n → Allowed n cut (eventOf r) × Room cut (eventOf r))
       → (b₁ b₂ : Bool) → full cut ≡ b₁ → leb n (nodeOf (eventOf r)) ≡ b₂
       → Judged n cut p r (firstBroken (rule 12 p b₁ ∷ rule 6 (p + 1) b₂ ∷ []))
-  judge-quiet r silent allowed true b₂ e₁ e₂ = judged-breaks (breaks-12 (leb-true _ _ e₁))
-  judge-quiet r silent allowed false true e₁ e₂ = judged-breaks (breaks-6 (leb-false _ _ e₁) (leb-true _ _ e₂))
-  judge-quiet r silent allowed false false e₁ e₂ =
-      judged-passes (leb-false _ _ e₁, allowed (leb-false _ _ e₂), λ a b m h. absurd (silent a b m h))
+  judge-quiet r allowed true b₂ e₁ e₂ = judged-breaks (breaks-12 (leb-true _ _ e₁))
+  judge-quiet r allowed false true e₁ e₂ = judged-breaks (breaks-6 (leb-false _ _ e₁) (leb-true _ _ e₂))
+  judge-quiet r allowed false false e₁ e₂ =
+      let a = allowed (leb-false _ _ e₂) in judged-passes (leb-false _ _ e₁, a .0, a .1)
 
   judge-send : (i j : Node) (m : MessageNumber) (b₁ b₂ b₃ b₄ b₅ b₆ : Bool)
       → full cut ≡ b₁ → leb n (i .0) ≡ b₂ → leb n (j .0) ≡ b₃ → eqb (i .0) (j .0) ≡ b₄ → flies (m .0) cut ≡ b₅
@@ -116,7 +115,7 @@ module _ (n : ℕ) (cut : List Event) (p : ℕ) where
       judged-breaks (breaks-9 (leb-false _ _ e₁)
       (leb-false _ _ e₂, leb-false _ _ e₃, eqb-false _ _ e₄, flies-false (m .0) cut e₅) (leb-true _ _ e₆))
   judge-send i j m false false false false false false e₁ e₂ e₃ e₄ e₅ e₆ =
-      judged-passes (leb-false _ _ e₁, (leb-false _ _ e₂, leb-false _ _ e₃, eqb-false _ _ e₄, flies-false (m .0) cut e₅), λ a b l h. leb-false _ _ e₆)
+      judged-passes (leb-false _ _ e₁, (leb-false _ _ e₂, leb-false _ _ e₃, eqb-false _ _ e₄, flies-false (m .0) cut e₅), leb-false _ _ e₆)
 
   judge-receipt : (j : Node) (m : MessageNumber) (b₁ b₂ b₃ b₄ : Bool)
       → full cut ≡ b₁ → leb n (j .0) ≡ b₂ → flies (m .0) cut ≡ b₃ → fliesElsewhere (m .0) (j .0) cut ≡ b₄
@@ -133,14 +132,14 @@ module _ (n : ℕ) (cut : List Event) (p : ℕ) where
       judged-passes (
         leb-false _ _ e₁,
         (leb-false _ _ e₂, (r .0, r .2, rw (elsewhere-false (m .0) (j .0) cut e₄ (r .3)) at (r .3))),
-        λ a b l h. absurd (let z : _≡_ {A = ℕ} 0 1 = cc in omega arith),
+        tt,
       )
 
   -- every record is judged by the table
   pub judged : (r : Record) → Judged n cut p r (firstBroken (rules n cut p r))
   unfolding rules
-  judged (Idle i) = judge-quiet (Idle i) (λ a b m h. let z : _≡_ {A = ℕ} 0 1 = cc in omega arith) (λ h. h) _ _ refl refl
-  judged (Mark i) = judge-quiet (Mark i) (λ a b m h. let z : _≡_ {A = ℕ} 0 1 = cc in omega arith) (λ h. h) _ _ refl refl
+  judged (Idle i) = judge-quiet (Idle i) (λ h. (h, tt)) _ _ refl refl
+  judged (Mark i) = judge-quiet (Mark i) (λ h. (h, tt)) _ _ refl refl
   judged (Send i j m) = judge-send i j m _ _ _ _ _ _ refl refl refl refl refl refl
   judged (Receipt j m) = judge-receipt j m _ _ _ _ refl refl refl refl
 
@@ -178,7 +177,6 @@ module _ (n : ℕ) (cut : List Event) (p : ℕ) where
   passes-first (Idle i) h = simp (lt-leb _ _ (h .0), lt-leb _ _ (h .1))
   passes-first (Mark i) h = simp (lt-leb _ _ (h .0), lt-leb _ _ (h .1))
   passes-first (Send i j m) (h, a, s) =
-      let t = s (i .0) (j .0) (m .0) refl in
-      simp (lt-leb _ _ h, lt-leb _ _ (a .0), lt-leb _ _ (a .1), ne-eqb _ _ (a .2), flies-no (m .0) cut (a .3), lt-leb _ _ t)
+      simp (lt-leb _ _ h, lt-leb _ _ (a .0), lt-leb _ _ (a .1), ne-eqb _ _ (a .2), flies-no (m .0) cut (a .3), lt-leb _ _ s)
   passes-first (Receipt j m) (h, a, s) =
       simp (lt-leb _ _ h, lt-leb _ _ (a .0), flies-yes (m .0) cut (a .1 .2), elsewhere-no (m .0) (j .0) cut (a .1 .2))

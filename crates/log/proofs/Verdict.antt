@@ -25,6 +25,10 @@ use Rattle.log.proofs.FirstRecord.{nodes-there}
 use Rattle.log.proofs.Rules.{Judged, judged-breaks, judged-passes, judged, breaks-first}
 use Rattle.log.proofs.Walk.{reached-walk}
 
+-- what is refused is not accepted
+pub not-accepted : {A : Type 0} {x q n : ℕ} {cut : List Event} → refused x q ≡ accepted n cut → A
+not-accepted e = absurd (let z : _≡_ {A = ℕ} 0 1 = cc in omega arith)
+
 -- what was reached lies within the log
 pub reached-bound : {log : List ℕ} {n p : ℕ} {cut : List Event} → Reached log n p cut → (2 ≤ p) × (p ≤ length log)
 reached-bound {log} (reached-first e) = let h = nodes-there log e in omega arith

@@ -6,7 +6,7 @@ use mathlib.Core.Logic.{_≢_}
 use mathlib.Core.List.{List, [], _∷_}
 use Prim.Native.Nat.{ℕ, _+_, _<_, _≤_}
 use lib.ListN.{length}
-use Rattle.order.specs.Order.{Event, send, nodeOf, Flying, Allowed}
+use Rattle.order.specs.Order.{Event, idle, mark, send, receipt, nodeOf, Flying, Allowed}
 use Rattle.order.specs.Flight.{inFlight}
 use Rattle.log.specs.declared.Node.{Node}
 use Rattle.log.specs.declared.MessageNumber.{MessageNumber}
@@ -42,9 +42,16 @@ pub data Breaks (n : ℕ) (cut : List Event) (p : ℕ) : Record → ℕ → ℕ 
   breaks-11 : {j : Node} {m : MessageNumber} {a b q : ℕ} → length cut < 4096 → j .0 < n
       → Flying (m .0) a b cut q → b ≢ j .0 → Breaks n cut p (Receipt j m) 11 (p + 2)
 
--- the record breaks no rule: there is room for its event, the event may follow the cut, and a send finds room for its message
+-- an event that is a send finds room for its message
+abbrev pub Room : List Event → Event → Type 0
+Room cut (idle i) = Unit {0}
+Room cut (mark i) = Unit {0}
+Room cut (send i j m) = length (inFlight cut) < 128
+Room cut (receipt j m) = Unit {0}
+
+-- the record breaks no rule: there is room for its event, which may follow the cut, and for its message
 abbrev pub Passes : ℕ → List Event → Record → Type 0
-Passes n cut r = (length cut < 4096) × Allowed n cut (eventOf r) × ((i j m : ℕ) → eventOf r ≡ send i j m → length (inFlight cut) < 128)
+Passes n cut r = (length cut < 4096) × Allowed n cut (eventOf r) × Room cut (eventOf r)
 
 -- Every record before place p of the log is whole and passes; they are those of the cut, for n nodes.
 pub data Reached (log : List ℕ) (n : ℕ) : ℕ → List Event → Type 0 where

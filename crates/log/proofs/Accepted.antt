@@ -3,7 +3,7 @@
 -- Assumes nothing.
 use mathlib.Core.Path.{_≡_, subst}
 use mathlib.Core.List.{List, _∷_}
-use Prim.Native.Nat.{ℕ, _≤_}
+use Prim.Native.Nat.{ℕ, _+_, _*_, _≤_}
 use native.Mathlib.Omega.{arith}
 use lib.ListN.{length}
 use Rattle.order.specs.Order.{Event, Sound, sound-nil, sound-cons}
@@ -14,6 +14,7 @@ use Rattle.log.specs.declared.Record.the-variants.{Idle, Mark, Send, Rec
 use Rattle.log.specs.Verdict.{accepted, eventOf, verdict}
 use Rattle.log.specs.Table.{Passes, Reached, reached-first, reached-next}
 use Rattle.log.specs.Lawful.{Lawful}
+use Rattle.log.proofs.Stands.{sizeOf, read-size}
 use Rattle.log.proofs.FirstRecord.{nodes-there}
 use Rattle.log.proofs.Verdict.{verdict-accepted}
 use Rattle.log.proofs.Cuts.{reached-cut}
@@ -59,3 +60,19 @@ reached-lawful {log} {n} {p} here =
 -- the events of an accepted log are lawful
 pub accepted-lawful : (log : List ℕ) (n : ℕ) (cut : List Event) → verdict log ≡ accepted n cut → Lawful n cut
 accepted-lawful log n cut e = reached-lawful (verdict-accepted log .0 e)
+
+-- ---- and their log is short
+
+size-most : (r : Record) → sizeOf r ≤ 5
+size-most (Idle i) = omega arith
+size-most (Mark i) = omega arith
+size-most (Send i j m) = omega arith
+size-most (Receipt j m) = omega arith
+
+reached-length : {log : List ℕ} {n p : ℕ} {cut : List Event} → Reached log n p cut → p ≤ 2 + 5 * length cut
+reached-length {log} (reached-first e) = let h = nodes-there log e in omega arith
+reached-length {log} (reached-next {p = p} {r = r} before e h) = omega (arith, reached-length before, read-size log p e, size-most r)
+
+-- an accepted log has at most 20,482 bytes
+pub accepted-length : (log : List ℕ) (n : ℕ) (cut : List Event) → verdict log ≡ accepted n cut → length log ≤ 20482
+accepted-length log n cut e = let here = verdict-accepted log .0 e in omega (arith, reached-length here, reached-events here)

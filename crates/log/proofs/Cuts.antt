@@ -45,6 +45,11 @@ reached-accepted {log} {n} {p} {cut} here =
 
 -- ---- every earlier cut of the events
 
+-- what is reached is a place after a whole record
+reached-ends : {log : List ℕ} {n p : ℕ} {cut : List Event} → Reached log n p cut → Ends log p
+reached-ends (reached-first e) = ends-first e
+reached-ends (reached-next before e h) = ends-next (reached-ends before) e
+
 reached-before : {log : List ℕ} {n p : ℕ} {e : Event} {past : List Event} → Reached log n p (e ∷ past) → (q : ℕ) × (q ≤ p) × Reached log n q past
 reached-before {log} (reached-next {p = p} before e h) = let f = read-forward log p e in (p, omega arith, before)
 
@@ -109,7 +114,7 @@ module _ (log : List ℕ) (n : ℕ) (cut : List Event) (ok : verdict log ≡ acc
       (b .0, a .0, b .1, reached-accepted (a .1))
 
   -- and every earlier cut of the events is that of the log cut after some record
-  pub accepted-cut : (later past : List Event) → cut ≡ later ++ past → (p : ℕ) × (p ≤ length log) × (verdict (take p log) ≡ accepted n past)
+  pub accepted-cut : (later past : List Event) → cut ≡ later ++ past → (p : ℕ) × Ends log p × (verdict (take p log) ≡ accepted n past)
   accepted-cut later past e =
       let r = reached-cut later (rw e at (verdict-accepted log .0 ok)) in
-      (r .0, r .1, reached-accepted (r .2))
+      (r .0, reached-ends (r .2), reached-accepted (r .2))

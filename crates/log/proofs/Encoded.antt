@@ -31,11 +31,11 @@ use Rattle.log.proofs.Accepted.{accepted-lawful}
 -- ---- from what was reached to the bytes
 
 -- the list xs stands in the log from place p on
-abbrev Holds : List ℕ → ℕ → List ℕ → Type 0
-Holds log p [] = Unit {0}
-Holds log p (x ∷ xs) = (getD log p 0 ≡ x) × Holds log (suc p) xs
+abbrev Spells : List ℕ → ℕ → List ℕ → Type 0
+Spells log p [] = Unit {0}
+Spells log p (x ∷ xs) = (getD log p 0 ≡ x) × Spells log (suc p) xs
 
-part-is : (log : List ℕ) (p : ℕ) (xs : List ℕ) → p + length xs ≤ length log → Holds log p xs → take (length xs) (drop p log) ≡ xs
+part-is : (log : List ℕ) (p : ℕ) (xs : List ℕ) → p + length xs ≤ length log → Spells log p xs → take (length xs) (drop p log) ≡ xs
 part-is log p [] fits h = refl
 part-is log p (x ∷ xs) fits h =
     rw (drop-cons log p 0 (omega arith)) (ap₂ (λ (y : ℕ) (ys : List ℕ). y ∷ ys) (h .0) (part-is log (suc p) xs (omega arith) (h .1)))

@@ -1,8 +1,8 @@
--- Where a refusal points: at the byte that the table names, inside the record that is refused, and never past the log's
--- length. By the bytes behind each record that is read.
+-- Where a refusal points: at the very byte that the table names, inside the record that is refused, and never past the
+-- log's length. By the bytes behind each record that is read.
 -- Assumes nothing.
 use mathlib.Core.Path.{_≡_, refl, subst}
-use mathlib.Core.Logic.{_⊎_, inl, inr}
+use mathlib.Core.Logic.{_⊎_, inl, inr, _≢_}
 use mathlib.Core.List.{List}
 use Prim.Native.Nat.{ℕ, _+_, _<_, _≤_}
 use native.Mathlib.Omega.{arith}
@@ -16,39 +16,43 @@ use Rattle.log.specs.Table.{Breaks, breaks-12, breaks-6, breaks-6-to, br
 use Rattle.log.proofs.Stands.{Stands, stands, stands-idle, stands-mark, stands-send, stands-receipt, read-forward, unknown-there, short-there}
 use Rattle.log.proofs.FirstRecord.{missing-there, range-there}
 
--- what stands at the place of a refusal of this number, for a record whose kind byte is at p
+-- What the bytes are around the place of a refusal, for the record whose kind byte is at p. The last number is the place.
 pub data Points (log : List ℕ) (n : ℕ) (cut : List Event) (p : ℕ) : ℕ → ℕ → Type 0 where
   -- the kind byte
-  points-kind : {x : ℕ} → (x ≡ 9) ⊎ (x ≡ 12) → Points log n cut p x p
-  -- a node that is not below the node count
-  points-node : {q : ℕ} → n ≤ getD log q 0 → Points log n cut p 6 q
-  -- the destination, which is the sender
-  points-itself : getD log (p + 1) 0 ≡ getD log (p + 2) 0 → Points log n cut p 7 (p + 2)
-  -- the first byte of a number that is in flight
-  points-flying : {x q a b s : ℕ} → (x ≡ 8) ⊎ (x ≡ 11) → Flying (numberAt log q .0) a b cut s → Points log n cut p x q
-  -- the first byte of a number that is not
-  points-unsent : {q : ℕ} → ((a b s : ℕ) → ¬ Flying (numberAt log q .0) a b cut s) → Points log n cut p 10 q
+  points-12 : Points log n cut p 12 p
+  -- the node's byte
+  points-6 : n ≤ getD log (p + 1) 0 → Points log n cut p 6 (p + 1)
+  -- the destination's byte, of a send
+  points-6-to : getD log p 0 ≡ 0x13 → n ≤ getD log (p + 2) 0 → Points log n cut p 6 (p + 2)
+  points-7 : getD log p 0 ≡ 0x13 → getD log (p + 1) 0 ≡ getD log (p + 2) 0 → Points log n cut p 7 (p + 2)
+  -- the first byte of a send's number
+  points-8 : {a b s : ℕ} → getD log p 0 ≡ 0x13 → Flying (numberAt log (p + 3) .0) a b cut s → Points log n cut p 8 (p + 3)
+  -- the kind byte of a send
+  points-9 : getD log p 0 ≡ 0x13 → Points log n cut p 9 p
+  -- the first byte of a receipt's number
+  points-10 : getD log p 0 ≡ 0x14 → ((a b s : ℕ) → ¬ Flying (numberAt log (p + 2) .0) a b cut s) → Points log n cut p 10 (p + 2)
+  points-11 : {a b s : ℕ} → getD log p 0 ≡ 0x14 → Flying (numberAt log (p + 2) .0) a b cut s → b ≢ getD log (p + 1) 0 → Points log n cut p 11 (p + 2)
 
 module _ (log : List ℕ) (n : ℕ) (cut : List Event) (p : ℕ) where
-  points : {r : Record} {c : Cursor} {x q : ℕ} → Stands log p (Read r c) → Breaks n cut p r x q → Points log n cut p x q × (p ≤ q) × (q < c .at)
-  points (stands-idle k h) (breaks-12 a) = (points-kind (inr refl), omega arith, omega arith)
-  points (stands-idle k h) (breaks-6 a b) = (points-node b, omega arith, omega arith)
-  points (stands-mark k h) (breaks-12 a) = (points-kind (inr refl), omega arith, omega arith)
-  points (stands-mark k h) (breaks-6 a b) = (points-node b, omega arith, omega arith)
-  points (stands-send k h) (breaks-12 a) = (points-kind (inr refl), omega arith, omega arith)
-  points (stands-send k h) (breaks-6 a b) = (points-node b, omega arith, omega arith)
-  points (stands-send k h) (breaks-6-to a b d) = (points-node d, omega arith, omega arith)
-  points (stands-send k h) (breaks-7 a b d e) = (points-itself e, omega arith, omega arith)
-  points (stands-send k h) (breaks-8 a b d e f) = (points-flying (inl refl) f, omega arith, omega arith)
-  points (stands-send k h) (breaks-9 a b d) = (points-kind (inl refl), omega arith, omega arith)
-  points (stands-receipt k h) (breaks-12 a) = (points-kind (inr refl), omega arith, omega arith)
-  points (stands-receipt k h) (breaks-6 a b) = (points-node b, omega arith, omega arith)
-  points (stands-receipt k h) (breaks-10 a b d) = (points-unsent d, omega arith, omega arith)
-  points (stands-receipt k h) (breaks-11 a b f d) = (points-flying (inr refl) f, omega arith, omega arith)
+  points : {r : Record} {c : Cursor} {x q : ℕ} → Stands log p (Read r c) → Breaks n cut p r x q → Points log n cut p x q × (q < c .at)
+  points (stands-idle k h) (breaks-12 a) = (points-12, omega arith)
+  points (stands-idle k h) (breaks-6 a b) = (points-6 b, omega arith)
+  points (stands-mark k h) (breaks-12 a) = (points-12, omega arith)
+  points (stands-mark k h) (breaks-6 a b) = (points-6 b, omega arith)
+  points (stands-send k h) (breaks-12 a) = (points-12, omega arith)
+  points (stands-send k h) (breaks-6 a b) = (points-6 b, omega arith)
+  points (stands-send k h) (breaks-6-to a b d) = (points-6-to k d, omega arith)
+  points (stands-send k h) (breaks-7 a b d e) = (points-7 k e, omega arith)
+  points (stands-send k h) (breaks-8 a b d e f) = (points-8 k f, omega arith)
+  points (stands-send k h) (breaks-9 a b d) = (points-9 k, omega arith)
+  points (stands-receipt k h) (breaks-12 a) = (points-12, omega arith)
+  points (stands-receipt k h) (breaks-6 a b) = (points-6 b, omega arith)
+  points (stands-receipt k h) (breaks-10 a b d) = (points-10 k d, omega arith)
+  points (stands-receipt k h) (breaks-11 a b f d) = (points-11 k f d, omega arith)
 
   -- a broken rule points at its byte, inside the record
   pub breaks-point : {r : Record} {c : Cursor} {x q : ℕ} → recordAt log p ≡ Read r c → Breaks n cut p r x q
-      → Points log n cut p x q × (p ≤ q) × (q < c .at)
+      → Points log n cut p x q × (q < c .at)
   breaks-point e b = points (subst (Stands log p) e (stands log p)) b
 
 -- a refusal's place is within the log, and 2 alone is given where there may be no byte: at 0

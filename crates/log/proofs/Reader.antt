@@ -1,4 +1,4 @@
--- The reader's promise, kind by kind, and that reading goes forward: nothing above looks into its definition again.
+-- The reader's promise, kind by kind: the tests of its definition decided by the kind byte and the length.
 -- Assumes nothing.
 use mathlib.Core.Path.{_≡_}
 use mathlib.Core.List.{List}

@@ -15,11 +15,24 @@ use Rattle.log.specs.declared.Step.the-variants.{Read, End, Unknown, Sho
 use Rattle.log.specs.Record.{place, nodeAt, numberAt, wholeAt, recordAt}
 use Rattle.log.proofs.Reader.{record-end, record-idle, record-mark, record-send, record-receipt, record-unknown, whole-read, whole-short}
 
+-- 01's table of kinds: the kind byte of an event, and how many bytes its record has
+pub data Kind : ℕ → ℕ → Type 0 where
+  kind-idle : Kind 0x11 2
+  kind-mark : Kind 0x12 2
+  kind-send : Kind 0x13 5
+  kind-receipt : Kind 0x14 4
+
+no-kind : {k size : ℕ} → ¬ (k ≡ 0x11) → ¬ (k ≡ 0x12) → ¬ (k ≡ 0x13) → ¬ (k ≡ 0x14) → ¬ Kind k size
+no-kind a b c d kind-idle = a refl
+no-kind a b c d kind-mark = b refl
+no-kind a b c d kind-send = c refl
+no-kind a b c d kind-receipt = d refl
+
 -- the bytes at place p behind an answer
 pub data Stands (log : List ℕ) (p : ℕ) : Step → Type 0 where
   stands-end : length log ≤ p → Stands log p End
-  stands-unknown : p < length log → Stands log p (Unknown p)
-  stands-short : p < length log → Stands log p (Short p)
+  stands-unknown : p < length log → ((size : ℕ) → ¬ Kind (getD log p 0) size) → Stands log p (Unknown p)
+  stands-short : {size : ℕ} → p < length log → Kind (getD log p 0) size → length log < p + size → Stands log p (Short p)
   stands-idle : getD log p 0 ≡ 0x11 → p + 2 ≤ length log → Stands log p (Read (Idle (nodeAt log (p + 1))) (place (p + 2)))
   stands-mark : getD log p 0 ≡ 0x12 → p + 2 ≤ length log → Stands log p (Read (Mark (nodeAt log (p + 1))) (place (p + 2)))
   stands-send : getD log p 0 ≡ 0x13 → p + 5 ≤ length log
@@ -29,24 +42,24 @@ pub data Stands (log : List ℕ) (p : ℕ) : Step → Type 0 where
 
 module _ (log : List ℕ) (p : ℕ) where
   -- a record of a known kind is whole or cut short
-  sized : (inside : p < length log) (size : ℕ) (r : Record) → recordAt log p ≡ wholeAt log p size r
+  sized : (inside : p < length log) (size : ℕ) (r : Record) → Kind (getD log p 0) size → recordAt log p ≡ wholeAt log p size r
       → (p + size ≤ length log → Stands log p (Read r (place (p + size)))) → Stands log p (recordAt log p)
-  sized inside size r e f = go (decLe size (length log - p))
+  sized inside size r k e f = go (decLe size (length log - p))
     where
       go : Dec (size ≤ length log - p) → Stands log p (recordAt log p)
       go (yes h) = rw (e ∙ whole-read log p inside size r h) (f (omega arith))
-      go (no h) = rw (e ∙ whole-short log p inside size r (omega arith)) (stands-short inside)
+      go (no h) = rw (e ∙ whole-short log p inside size r (omega arith)) (stands-short inside k (omega arith))
 
   kind : ℕ
   kind = getD log p 0
 
   by-kind : p < length log → Dec (kind ≡ 0x11) → Dec (kind ≡ 0x12) → Dec (kind ≡ 0x13) → Dec (kind ≡ 0x14) → Stands log p (recordAt log p)
   unfolding kind
-  by-kind h (yes k) b c d = sized h 2 _ (record-idle log p h k) (stands-idle k)
-  by-kind h (no a) (yes k) c d = sized h 2 _ (record-mark log p h k) (stands-mark k)
-  by-kind h (no a) (no b) (yes k) d = sized h 5 _ (record-send log p h k) (stands-send k)
-  by-kind h (no a) (no b) (no c) (yes k) = sized h 4 _ (record-receipt log p h k) (stands-receipt k)
-  by-kind h (no a) (no b) (no c) (no d) = rw (record-unknown log p h a b c d) (stands-unknown h)
+  by-kind h (yes k) b c d = sized h 2 _ (rw k kind-idle) (record-idle log p h k) (stands-idle k)
+  by-kind h (no a) (yes k) c d = sized h 2 _ (rw k kind-mark) (record-mark log p h k) (stands-mark k)
+  by-kind h (no a) (no b) (yes k) d = sized h 5 _ (rw k kind-send) (record-send log p h k) (stands-send k)
+  by-kind h (no a) (no b) (no c) (yes k) = sized h 4 _ (rw k kind-receipt) (record-receipt log p h k) (stands-receipt k)
+  by-kind h (no a) (no b) (no c) (no d) = rw (record-unknown log p h a b c d) (stands-unknown h (λ size. no-kind a b c d))
 
   -- every place has its case
   pub stands : Stands log p (recordAt log p)
@@ -99,18 +112,19 @@ module _ (log : List ℕ) (p : ℕ) where
       go : Stands log p End → length log ≤ p
       go (stands-end h) = h
 
-  -- what is refused is refused at its kind byte, which the log has
-  pub unknown-there : {q : ℕ} → recordAt log p ≡ Unknown q → (q ≡ p) × (p < length log)
+  -- 4 is given at a byte of the log that is no kind
+  pub unknown-there : {q : ℕ} → recordAt log p ≡ Unknown q → (q ≡ p) × (p < length log) × ((size : ℕ) → ¬ Kind (getD log p 0) size)
   unknown-there e = go (subst (Stands log p) e (stands log p))
     where
-      go : {q : ℕ} → Stands log p (Unknown q) → (q ≡ p) × (p < length log)
-      go (stands-unknown h) = (refl, h)
+      go : {q : ℕ} → Stands log p (Unknown q) → (q ≡ p) × (p < length log) × ((size : ℕ) → ¬ Kind (getD log p 0) size)
+      go (stands-unknown h none) = (refl, h, none)
 
-  pub short-there : {q : ℕ} → recordAt log p ≡ Short q → (q ≡ p) × (p < length log)
+  -- 5 is given at the kind byte of a record of which the log lacks bytes
+  pub short-there : {q : ℕ} → recordAt log p ≡ Short q → (q ≡ p) × (p < length log) × ((size : ℕ) × Kind (getD log p 0) size × (length log < p + size))
   short-there e = go (subst (Stands log p) e (stands log p))
     where
-      go : {q : ℕ} → Stands log p (Short q) → (q ≡ p) × (p < length log)
-      go (stands-short h) = (refl, h)
+      go : {q : ℕ} → Stands log p (Short q) → (q ≡ p) × (p < length log) × ((size : ℕ) × Kind (getD log p 0) size × (length log < p + size))
+      go (stands-short {size = size} h k l) = (refl, h, (size, k, l))
 
 -- ---- the bytes of a record decide it
 

@@ -107,7 +107,7 @@ afterRules (some r) rest = refused (r .number) (r .place)
 afterRules none rest = rest
 
 -- The verdict on the records from place p on, for n nodes after the events of cut. It takes a turn for each record, and a
--- record has a byte at least, so as many turns as the log has bytes are enough.
+-- record has two bytes at least, so as many turns as the log has bytes are enough.
 unfoldable pub walk : ℕ → List ℕ → ℕ → ℕ → List Event → Verdict
 walk zero log n p cut = accepted n cut
 walk (suc turns) log n p cut =

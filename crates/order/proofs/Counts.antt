@@ -23,8 +23,8 @@ counts-same f g (counts-no {m = m} x a) = counts-no (λ y. x (g m (le-refl _) y)
 
 -- ---- a later end
 
-reached : {P : ℕ → Type 0} {l m c d : ℕ} → l ≡ m → Counts P l c → Counts P m d → c ≤ d
-reached {P} {c = c} e a b = let z = counts-unique (subst (λ (x : ℕ). Counts P x c) e a) b in omega arith
+same-end : {P : ℕ → Type 0} {l m c d : ℕ} → l ≡ m → Counts P l c → Counts P m d → c ≤ d
+same-end {P} {c = c} e a b = let z = counts-unique (subst (λ (x : ℕ). Counts P x c) e a) b in omega arith
 
 end-cases : (l m : ℕ) → l ≤ suc m → (l ≡ suc m) ⊎ (l ≤ m)
 end-cases l m h = go (decLe l m)
@@ -35,9 +35,9 @@ end-cases l m h = go (decLe l m)
 
 -- a count does not fall as its end moves on
 pub counts-grow : {P : ℕ → Type 0} {l m c d : ℕ} → l ≤ m → Counts P l c → Counts P m d → c ≤ d
-counts-grow {l = l} h a (counts-yes {m = m} x b) = ⊎-elim (λ e. reached e a (counts-yes x b)) (λ l. let g = counts-grow l a b in omega arith) (end-cases l m h)
-counts-grow {l = l} h a (counts-no {m = m} x b) = ⊎-elim (λ e. reached e a (counts-no x b)) (λ l. counts-grow l a b) (end-cases l m h)
-counts-grow h a counts-zero = reached (omega arith) a counts-zero
+counts-grow {l = l} h a (counts-yes {m = m} x b) = ⊎-elim (λ e. same-end e a (counts-yes x b)) (λ l. let g = counts-grow l a b in omega arith) (end-cases l m h)
+counts-grow {l = l} h a (counts-no {m = m} x b) = ⊎-elim (λ e. same-end e a (counts-no x b)) (λ l. counts-grow l a b) (end-cases l m h)
+counts-grow h a counts-zero = same-end (omega arith) a counts-zero
 
 -- and it rises past a place that has the property
 pub counts-rise : {P : ℕ → Type 0} {l m c d : ℕ} → l ≤ m → P m → Counts P l c → Counts P (suc m) d → c < d

@@ -8,8 +8,6 @@ use native.Mathlib.Omega.{arith}
 use Rattle.log.specs.Record.{openingOf}
 use Rattle.log.proofs.open.Statement.{statement}
 use Rattle.log.proofs.open.Tie as tie
-use Rattle.log.proofs.open.Reads as reads
-use Rattle.log.proofs.open.Lts as lts
 
 returns : tie.Need-returns
 unfolding openingOf

@@ -3,11 +3,12 @@
 -- Assumes nothing.
 use mathlib.Core.Path.{_≡_, refl}
 use mathlib.Core.List.{List}
-use Prim.Native.Nat.{ℕ, _<_}
+use Prim.Native.Nat.{ℕ, suc, _<_}
+use native.Mathlib.Decide.{decLt}
 use native.Mathlib.Omega.{arith}
-use Rattle.order.specs.Order.{Event, Numbered, Nearest, Stamp}
+use Rattle.order.specs.Order.{Event, Before, Numbered, Nearest, Stamp}
 use Rattle.order.proofs.Before.{node-order}
-use Rattle.order.proofs.Counts.{counts-unique, counts-rise}
+use Rattle.order.proofs.Counts.{counts-unique, counts-grow, counts-rise}
 
 -- places that are neither earlier nor later than each other are the same
 one-place : (f g : ℕ) → ¬ (f < g) → ¬ (g < f) → f ≡ g
@@ -24,6 +25,14 @@ numbered-number m n = counts-unique (m .1) (n .1)
 -- a later mark of a node has a larger number
 pub numbered-rises : {es : List Event} {k f g c d : ℕ} → Numbered es k f c → Numbered es k g d → f < g → c < d
 numbered-rises m n h = counts-rise h (n .0) (m .1) (n .1)
+
+-- and of two marks of a node the one with the smaller number is before the other
+pub numbered-before : {es : List Event} {k f g c d : ℕ} → Numbered es k f c → Numbered es k g d → c < d → Before es f g
+numbered-before {f = f} {g = g} m n h = node-order refl (m .0) (n .0) (earlier (decLt f g))
+  where
+    earlier : Dec (f < g) → f < g
+    earlier (yes l) = l
+    earlier (no l) = let z = counts-grow {l = suc g} (omega arith) (n .1) (m .1) in absurd (omega arith)
 
 -- a number has one mark
 pub numbered-place : {es : List Event} {k f g c : ℕ} → Numbered es k f c → Numbered es k g c → f ≡ g

@@ -1,0 +1,81 @@
+-- The machines' small functions, each by the cases of its test.
+-- Assumes nothing.
+use mathlib.Core.Path.{_≡_, refl, ap}
+use mathlib.Core.Logic.{_≢_}
+use mathlib.Core.Bool.{Bool, true, false, _&&_}
+use Prim.Native.Nat.{ℕ, suc, _<_, _≤_, max}
+use native.Mathlib.Nat.{le-refl}
+use native.Mathlib.Decide.{ℕ-discrete, decLt}
+use native.Mathlib.Omega.{arith}
+use borrow.Author.Tests.{eq-eqb, ne-eqb, lt-ltb, le-ltb}
+use Rattle.order.specs.Order.{Event, idle, mark, send, receipt}
+use Rattle.machine.specs.Machine.{put, Entry, absent, present, meet, takeCount}
+
+-- two constructors of Bool are not the same
+pub true-false : {A : Type 0} → true ≡ false → A
+true-false h = absurd (let z : _≡_ {A = ℕ} 0 1 = cc in omega arith)
+
+pub false-true : {A : Type 0} → false ≡ true → A
+false-true h = absurd (let z : _≡_ {A = ℕ} 0 1 = cc in omega arith)
+
+pub absent-present : {A : Type 0} {c : ℕ} {x : Bool} → absent ≡ present c x → A
+absent-present h = absurd (let z : _≡_ {A = ℕ} 0 1 = cc in omega arith)
+
+pub and-true : (x y : Bool) → x && y ≡ true → (x ≡ true) × (y ≡ true)
+and-true true y h = (refl, h)
+and-true false y h = false-true h
+
+-- ---- events of different kinds
+
+abbrev pub kind : Event → ℕ
+kind (idle i) = 0
+kind (mark i) = 1
+kind (send i j m) = 2
+kind (receipt j m) = 3
+
+pub differ : {e f : Event} → kind e ≢ kind f → e ≢ f
+differ h q = h (ap kind q)
+
+-- ---- a function with one value put in
+
+pub put-same : {A : Type 0} (i : ℕ) (a : A) (f : ℕ → A) → put i a f i ≡ a
+unfolding put
+put-same i a f = rw (eq-eqb i i refl)
+
+pub put-other : {A : Type 0} (i : ℕ) (a : A) (f : ℕ → A) (j : ℕ) → i ≢ j → put i a f j ≡ f j
+unfolding put
+put-other i a f j h = rw (ne-eqb i j h)
+
+-- what holds of the value put in and of the other values
+pub put-cases : {A : Type 0} (P : A → Type 0) (i : ℕ) (a : A) (f : ℕ → A) (j : ℕ) → (i ≡ j → P a) → (i ≢ j → P (f j)) → P (put i a f j)
+put-cases P i a f j same other = go (ℕ-discrete i j)
+  where
+    go : Dec (i ≡ j) → P (put i a f j)
+    go (yes h) = rw (← h, put-same i a f) (same h)
+    go (no h) = rw (put-other i a f j h) (other h)
+
+-- and the way back
+pub put-inverse : {A B : Type 0} (P : A → Type 0) (i : ℕ) (a : A) (f : ℕ → A) (j : ℕ) → (i ≡ j → P a → B) → (i ≢ j → P (f j) → B) → P (put i a f j) → B
+put-inverse {B = B} P i a f j = put-cases (λ b. P b → B) i a f j
+
+-- ---- two counts that meet
+
+pub data Meets (c : ℕ) (x : Bool) (d : ℕ) (y : Bool) : Type 0 where
+  larger : c < d → meet c x d y ≡ y → Meets c x d y
+  smaller : d < c → meet c x d y ≡ x → Meets c x d y
+  equal : c ≡ d → meet c x d y ≡ x && y → Meets c x d y
+
+pub meets : (c : ℕ) (x : Bool) (d : ℕ) (y : Bool) → Meets c x d y
+unfolding meet
+meets c x d y = go (decLt c d) (decLt d c)
+  where
+    go : Dec (c < d) → Dec (d < c) → Meets c x d y
+    go (yes h) e = larger h (rw (lt-ltb c d h))
+    go (no h) (yes l) = smaller l (rw (le-ltb c d (omega arith), lt-ltb d c l))
+    go (no h) (no l) = equal (omega arith) (rw (le-ltb c d (omega arith), le-ltb d c (omega arith)))
+
+-- a receipt lowers no count
+pub take-rises : (c : ℕ) (x : Entry) → c ≤ takeCount c x
+unfolding takeCount
+take-rises c absent = le-refl _
+take-rises c (present d y) = omega arith

@@ -1,0 +1,4 @@
+pub mod Machine
+pub mod Short
+pub mod History
+pub mod Answer

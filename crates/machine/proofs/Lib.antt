@@ -5,3 +5,6 @@ pub mod Describes
 pub mod Full
 pub mod Listed
 pub mod Answers
+pub mod Agree
+pub mod Honest
+pub mod Letters

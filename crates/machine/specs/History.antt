@@ -1,4 +1,4 @@
--- What a node has been brought, of the messages that it received and what each carried, and not of any bit.
+-- What a node has been brought: of the messages that it received and what each carried, and not of what is held.
 -- Assumes nothing.
 use mathlib.Core.Bool.{Bool}
 use mathlib.Core.Path.{_≡_}
@@ -6,13 +6,13 @@ use mathlib.Core.List.{List, _∷_}
 use Prim.Native.Nat.{ℕ}
 use Rattle.order.specs.Order.{Event, receipt, Flying}
 use Rattle.machine.specs.Machine.{present}
-use Rattle.machine.specs.Short.{short, columns}
+use Rattle.machine.specs.Short.{Knowledge, short}
 
--- the short message that is in flight at the end of the cut with number m carries k's count c
-abbrev pub Carries : List Event → ℕ → ℕ → ℕ → Type 0
-Carries es m k c = (x : Bool) × (short columns es .state .letter m .entry k ≡ present c x)
+-- the message in flight at the end of the cut with number m carries k's count c
+abbrev pub Carries : Knowledge → List Event → ℕ → ℕ → ℕ → Type 0
+Carries K es m k c = (x : Bool) × (short K es .state .letter m .entry k ≡ present c x)
 
 -- node i has received from node j a message that carried k's count c
-pub data Brought (i j k c : ℕ) : List Event → Type 0 where
-  brought-now : {past : List Event} {m p : ℕ} → Flying m j i past p → Carries past m k c → Brought i j k c (receipt i m ∷ past)
-  brought-once : {e : Event} {past : List Event} → Brought i j k c past → Brought i j k c (e ∷ past)
+pub data Brought (K : Knowledge) (i j k c : ℕ) : List Event → Type 0 where
+  brought-now : {past : List Event} {m p : ℕ} → Flying m j i past p → Carries K past m k c → Brought K i j k c (receipt i m ∷ past)
+  brought-once : {e : Event} {past : List Event} → Brought K i j k c past → Brought K i j k c (e ∷ past)

@@ -1,0 +1,81 @@
+-- A letter in flight is the one that was sent: it names its sender, and no count that the sender does not have. By induction
+-- on the cut, whatever the knowledge.
+-- Assumes nothing.
+use mathlib.Core.Path.{_≡_, refl, _∙_}
+use mathlib.Core.Logic.{_⊎_, inl, inr, _≢_, ⊎-elim}
+use mathlib.Core.Bool.{Bool, true, false}
+use mathlib.Core.List.{List, [], _∷_, _++_}
+use Prim.Native.Nat.{ℕ, zero, suc, _<_, _≤_}
+use native.Mathlib.Decide.{ℕ-discrete}
+use native.Mathlib.Omega.{arith}
+use lib.ListN.{length, length-append}
+use Rattle.order.specs.Order.{Event, idle, mark, send, receipt, Names, Flying}
+use Rattle.order.proofs.Places.{flying-bound, flying-cases}
+use Rattle.machine.specs.Machine.{put, Entry, absent, present, Letter, State, marked, received, step}
+use Rattle.machine.specs.Short.{Knowledge, offer, Short, brief, short}
+use Rattle.machine.proofs.Small.{differ, absent-present, put-same, put-other}
+use Rattle.machine.proofs.Honest.{rises}
+
+offer-present : (c : ℕ) (x spared : Bool) {d : ℕ} {y : Bool} → offer c x spared ≡ present d y → (c ≡ d) × (x ≡ y) × (0 < d) × (spared ≡ false)
+unfolding offer
+offer-present zero x spared h = absent-present h
+offer-present (suc c) x true h = absent-present h
+offer-present (suc c) x false {d} {y} h = let e : suc c ≡ d = cc in (e, cc, omega arith, refl)
+
+-- a letter names its sender, and no count that the sender does not have
+abbrev pub Truthful : List Event → State → Type 0
+Truthful es s = (m i j a : ℕ) → Flying m i j es a
+    → (s .letter m .from ≡ i) × ((k d : ℕ) (y : Bool) → s .letter m .entry k ≡ present d y → d ≤ s .count i k)
+
+module _ {past : List Event} (s : State) (t : Truthful past s) where
+  truthful-kept : (says : ℕ → ℕ → ℕ → Entry) (e : Event) → ((i j m : ℕ) → e ≢ send i j m) → (m i j a : ℕ) → Flying m i j (e ∷ past) a
+      → (s .letter m .from ≡ i) × ((k d : ℕ) (y : Bool) → s .letter m .entry k ≡ present d y → d ≤ step says e s .count i k)
+  truthful-kept says e silent m i j a f =
+      ⊎-elim (λ c. absurd (silent i j m (c .0)))
+      (λ c. let l = t m i j a (c .1) in (l .0, λ k d y h. omega (arith, l .1 k d y h, rises says e s i k)))
+      (flying-cases f)
+
+  truthful-send : (says : ℕ → ℕ → ℕ → Entry) (i j m : ℕ) → ((k d : ℕ) (y : Bool) → says i j k ≡ present d y → d ≤ s .count i k)
+      → Truthful (send i j m ∷ past) (step says (send i j m) s)
+  unfolding step
+  truthful-send says i j m h l a b p f = go (flying-cases f) (ℕ-discrete m l)
+    where
+      L : Letter
+      L = record { from = i; entry = says i j }
+      go : ((send i j m ≡ send a b l) × (p ≡ length past)) ⊎ ((¬ (m ≡ l)) × Flying l a b past p) → Dec (m ≡ l)
+          → (put m L (s .letter) l .from ≡ a) × ((k d : ℕ) (y : Bool) → put m L (s .letter) l .entry k ≡ present d y → d ≤ s .count a k)
+      go (inl c) (yes e) = let q = c .0 in let z : i ≡ a = cc in rw (← e, ← z, put-same m L (s .letter)) (refl, h)
+      go (inl c) (no e) = absurd (e (let q = c .0 in cc))
+      go (inr c) (yes e) = absurd (c .0 e)
+      go (inr c) (no e) = rw (put-other m L (s .letter) l e) (t l a b p (c .1))
+
+pub truthful : (K : Knowledge) (es : List Event) → Truthful es (short K es .state)
+unfolding short step brief marked received
+truthful K [] = λ m i j a f. let h = flying-bound f in absurd (omega arith)
+truthful K (e ∷ past) = go e (truthful K past)
+  where
+    s : Short K
+    s = short K past
+    go : (e : Event) → Truthful past (s .state) → Truthful (e ∷ past) (step (brief s) e (s .state))
+    go (idle i) t = truthful-kept (s .state) t (brief s) (idle i) (λ a b m. differ (λ z. omega arith))
+    go (mark i) t = truthful-kept (s .state) t (brief s) (mark i) (λ a b m. differ (λ z. omega arith))
+    go (send i j m) t = truthful-send (s .state) t (brief s) i j m (λ k d y h. let o = offer-present _ _ _ h .0 in omega arith)
+    go (receipt j m) t = truthful-kept (s .state) t (brief s) (receipt j m) (λ a b m. differ (λ z. omega arith))
+
+-- a letter in flight is the one that was sent
+pub flight-kept : (K : Knowledge) (later past : List Event) {m i j : ℕ} → Flying m i j (later ++ (send i j m ∷ past)) (length past)
+    → short K (later ++ (send i j m ∷ past)) .state .letter m ≡ record { from = i; entry = brief (short K past) i j }
+unfolding short step marked received
+flight-kept K [] past {m} f = put-same m _ _
+flight-kept K (x ∷ later) past {m} {i} {j} f =
+    ⊎-elim (λ c. let z = c .1 in absurd (omega (arith, length-append later (send i j m ∷ past)))) (λ c. go x (c .0) (flight-kept K later past (c .1))) (flying-cases f)
+  where
+    es : List Event
+    es = later ++ (send i j m ∷ past)
+    L : Letter
+    L = record { from = i; entry = brief (short K past) i j }
+    go : (x : Event) → ¬ Names x m → short K es .state .letter m ≡ L → short K (x ∷ es) .state .letter m ≡ L
+    go (idle a) h r = r
+    go (mark a) h r = r
+    go (send a b l) h r = put-other l _ _ m h ∙ r
+    go (receipt b l) h r = r

@@ -8,3 +8,4 @@ pub mod Answers
 pub mod Agree
 pub mod Honest
 pub mod Letters
+pub mod Brought

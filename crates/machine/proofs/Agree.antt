@@ -11,7 +11,7 @@ use Rattle.order.specs.Order.{Event, idle, mark, send, receipt}
 use Rattle.machine.specs.Machine.{put, Entry, absent, present, Letter, State, start, marked, takeCount, takeFlag, received, step, whole, full}
 use Rattle.machine.specs.Short.{Knowledge, offer, Short, brief, short}
 use Rattle.machine.specs.Answer.{Answer, answer, answers}
-use Rattle.machine.proofs.Small.{put-same, put-other}
+use Rattle.machine.proofs.Small.{offer-cases, put-same, put-other}
 
 -- ---- idle entries
 
@@ -40,12 +40,6 @@ pub record Agrees (s t : State) : Type 0 where
 
 agrees-start : Agrees start start
 agrees-start = record { counts = refl; flags = refl; letters = λ m k. inr refl }
-
-offer-cases : (c : ℕ) (x spared : Bool) → (offer c x spared ≡ absent) ⊎ (offer c x spared ≡ present c x)
-unfolding offer
-offer-cases zero x spared = inl refl
-offer-cases (suc c) x true = inl refl
-offer-cases (suc c) x false = inr refl
 
 module _ {s t : State} (g : Agrees s t) where
   agrees-mark : (i : ℕ) → Agrees (marked i s) (marked i t)

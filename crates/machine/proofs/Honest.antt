@@ -14,7 +14,7 @@ use Rattle.order.specs.Order.{Event, idle, mark, send, receipt, Flying, Sound, 
 use Rattle.order.proofs.Places.{flying-bound, flying-cases}
 use Rattle.machine.specs.Machine.{put, Entry, absent, present, Letter, State, marked, meet, takeCount, takeFlag, received, step, whole, full}
 use Rattle.machine.specs.Short.{Knowledge, offer, Short, brief, short}
-use Rattle.machine.proofs.Small.{kind, differ, absent-present, put-same, put-other, put-cases, Meets, larger, smaller, equal, meets, take-rises}
+use Rattle.machine.proofs.Small.{offer-absent, kind, differ, absent-present, put-same, put-other, put-cases, Meets, larger, smaller, equal, meets, take-rises}
 use Rattle.machine.proofs.Full.{Faithful, faithful}
 use Rattle.machine.proofs.Agree.{Idle, Harmless, Fair, fair-nil, fair-cons, Agrees, agree}
 
@@ -74,12 +74,6 @@ owed-idle {t = t} v j m k o = rw (o .told) (let h = o .had in omega arith, go (m
     go (smaller l e) a = e
     go (equal l e) (inl a) = let z = clear v j k (l ∙ a) in e ∙ rw z
     go (equal l e) (inr a) = e ∙ and-right (t .flag j k) (o .flag) a
-
-offer-absent : (c : ℕ) (x spared : Bool) → offer c x spared ≡ absent → (c ≡ 0) ⊎ (spared ≡ true)
-unfolding offer
-offer-absent zero x spared h = inl refl
-offer-absent (suc c) x true h = inr refl
-offer-absent (suc c) x false h = absent-present (sym h)
 
 -- ---- by induction on the cut
 

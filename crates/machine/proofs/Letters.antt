@@ -13,14 +13,8 @@ use Rattle.order.specs.Order.{Event, idle, mark, send, receipt, Names, Flying}
 use Rattle.order.proofs.Places.{flying-bound, flying-cases}
 use Rattle.machine.specs.Machine.{put, Entry, absent, present, Letter, State, marked, received, step}
 use Rattle.machine.specs.Short.{Knowledge, offer, Short, brief, short}
-use Rattle.machine.proofs.Small.{differ, absent-present, put-same, put-other}
+use Rattle.machine.proofs.Small.{offer-present, differ, absent-present, put-same, put-other}
 use Rattle.machine.proofs.Honest.{rises}
-
-offer-present : (c : ℕ) (x spared : Bool) {d : ℕ} {y : Bool} → offer c x spared ≡ present d y → (c ≡ d) × (x ≡ y) × (0 < d) × (spared ≡ false)
-unfolding offer
-offer-present zero x spared h = absent-present h
-offer-present (suc c) x true h = absent-present h
-offer-present (suc c) x false {d} {y} h = let e : suc c ≡ d = cc in (e, cc, omega arith, refl)
 
 -- a letter names its sender, and no count that the sender does not have
 abbrev pub Truthful : List Event → State → Type 0

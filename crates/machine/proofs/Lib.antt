@@ -9,3 +9,4 @@ pub mod Agree
 pub mod Honest
 pub mod Letters
 pub mod Brought
+pub mod ShortMessages

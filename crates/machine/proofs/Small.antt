@@ -1,15 +1,16 @@
 -- The machines' small functions, each by the cases of its test.
 -- Assumes nothing.
-use mathlib.Core.Path.{_≡_, refl, ap}
-use mathlib.Core.Logic.{_≢_}
+use mathlib.Core.Path.{_≡_, refl, sym, ap}
+use mathlib.Core.Logic.{_⊎_, inl, inr, _≢_}
 use mathlib.Core.Bool.{Bool, true, false, _&&_}
-use Prim.Native.Nat.{ℕ, suc, _<_, _≤_, max}
+use Prim.Native.Nat.{ℕ, zero, suc, _<_, _≤_, max}
 use native.Mathlib.Nat.{le-refl}
 use native.Mathlib.Decide.{ℕ-discrete, decLt}
 use native.Mathlib.Omega.{arith}
 use borrow.Author.Tests.{eq-eqb, ne-eqb, lt-ltb, le-ltb}
 use Rattle.order.specs.Order.{Event, idle, mark, send, receipt}
 use Rattle.machine.specs.Machine.{put, Entry, absent, present, meet, takeCount}
+use Rattle.machine.specs.Short.{offer}
 
 -- two constructors of Bool are not the same
 pub true-false : {A : Type 0} → true ≡ false → A
@@ -79,3 +80,28 @@ pub take-rises : (c : ℕ) (x : Entry) → c ≤ takeCount c x
 unfolding takeCount
 take-rises c absent = le-refl _
 take-rises c (present d y) = omega arith
+
+-- ---- the entry that is offered
+
+pub offer-cases : (c : ℕ) (x spared : Bool) → (offer c x spared ≡ absent) ⊎ (offer c x spared ≡ present c x)
+unfolding offer
+offer-cases zero x spared = inl refl
+offer-cases (suc c) x true = inl refl
+offer-cases (suc c) x false = inr refl
+
+pub offer-absent : (c : ℕ) (x spared : Bool) → offer c x spared ≡ absent → (c ≡ 0) ⊎ (spared ≡ true)
+unfolding offer
+offer-absent zero x spared h = inl refl
+offer-absent (suc c) x true h = inr refl
+offer-absent (suc c) x false h = absent-present (sym h)
+
+pub offer-present : (c : ℕ) (x spared : Bool) {d : ℕ} {y : Bool} → offer c x spared ≡ present d y → (c ≡ d) × (x ≡ y) × (0 < d) × (spared ≡ false)
+unfolding offer
+offer-present zero x spared h = absent-present h
+offer-present (suc c) x true h = absent-present h
+offer-present (suc c) x false {d} {y} h = let e : suc c ≡ d = cc in (e, cc, omega arith, refl)
+
+pub offer-kept : (c : ℕ) (x : Bool) → 0 < c → offer c x false ≡ present c x
+unfolding offer
+offer-kept zero x h = absurd (omega arith)
+offer-kept (suc c) x h = refl

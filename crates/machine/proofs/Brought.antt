@@ -21,7 +21,7 @@ use Rattle.machine.proofs.Letters.{truthful}
 
 -- ---- what is brought is had, by both
 
-brought-none : {K : Knowledge} {i j k c : ℕ} → ¬ Brought K i j k c []
+pub brought-none : {K : Knowledge} {i j k c : ℕ} → ¬ Brought K i j k c []
 brought-none b = elim b [ ]
 
 pub brought-cases : {K : Knowledge} {i j k c : ℕ} {e : Event} {past : List Event} → Brought K i j k c (e ∷ past)

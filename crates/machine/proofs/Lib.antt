@@ -10,3 +10,5 @@ pub mod Honest
 pub mod Letters
 pub mod Brought
 pub mod ShortMessages
+pub mod OneRule
+pub mod Totals

@@ -4,8 +4,9 @@
 use mathlib.Core.Path.{_≡_, refl}
 use mathlib.Core.List.{List, [], _∷_, map}
 use Prim.Native.Nat.{ℕ}
-use Rattle.order.specs.Order.{Event, mark, send, receipt}
+use Rattle.order.specs.Order.{mark}
 use Rattle.order.specs.Flight.{without, inFlight}
+use Rattle.order.proofs.Samples.{cutA, cutB}
 use Rattle.log.specs.Record.{wholeAt, recordAt, openingOf}
 use Rattle.log.specs.Verdict.{Verdict, refused, accepted, rules, walk, verdict}
 
@@ -20,14 +21,8 @@ case l v = record { log = l; says = v }
 abbrev pub logA : List ℕ
 logA = 0x10 ∷ 3 ∷ 0x12 ∷ 0 ∷ 0x13 ∷ 0 ∷ 1 ∷ 1 ∷ 0 ∷ 0x13 ∷ 0 ∷ 2 ∷ 2 ∷ 0 ∷ 0x14 ∷ 1 ∷ 1 ∷ 0 ∷ 0x12 ∷ 1 ∷ 0x13 ∷ 1 ∷ 2 ∷ 3 ∷ 0 ∷ 0x14 ∷ 2 ∷ 2 ∷ 0 ∷ 0x14 ∷ 2 ∷ 3 ∷ 0 ∷ 0x12 ∷ 2 ∷ []
 
-abbrev pub cutA : List Event
-cutA = mark 2 ∷ receipt 2 3 ∷ receipt 2 2 ∷ send 1 2 3 ∷ mark 1 ∷ receipt 1 1 ∷ send 0 2 2 ∷ send 0 1 1 ∷ mark 0 ∷ []
-
 abbrev pub logB : List ℕ
 logB = 0x10 ∷ 2 ∷ 0x12 ∷ 0 ∷ 0x13 ∷ 0 ∷ 1 ∷ 1 ∷ 0 ∷ 0x14 ∷ 1 ∷ 1 ∷ 0 ∷ 0x13 ∷ 1 ∷ 0 ∷ 2 ∷ 0 ∷ 0x12 ∷ 1 ∷ 0x13 ∷ 1 ∷ 0 ∷ 3 ∷ 0 ∷ 0x14 ∷ 0 ∷ 3 ∷ 0 ∷ 0x12 ∷ 0 ∷ 0x14 ∷ 0 ∷ 2 ∷ 0 ∷ []
-
-abbrev pub cutB : List Event
-cutB = receipt 0 2 ∷ mark 0 ∷ receipt 0 3 ∷ send 1 0 3 ∷ mark 1 ∷ send 1 0 2 ∷ receipt 1 1 ∷ send 0 1 1 ∷ mark 0 ∷ []
 
 abbrev pub cases : List Case
 cases =

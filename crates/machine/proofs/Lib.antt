@@ -12,3 +12,6 @@ pub mod Brought
 pub mod ShortMessages
 pub mod OneRule
 pub mod Totals
+pub mod Cases
+pub mod Paper
+pub mod Shortcuts

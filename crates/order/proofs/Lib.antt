@@ -4,3 +4,4 @@ pub mod Counts
 pub mod Marks
 pub mod Growing
 pub mod Flight
+pub mod Samples

@@ -1,15 +1,15 @@
 -- Short messages whose missing entries would change nothing on arrival leave every node with the same counts and flags as
 -- full ones: by induction on the cut, for any knowledge.
 -- Assumes nothing.
-use mathlib.Core.Path.{_≡_, refl, sym, _∙_, ap, ap₂, fun-ext}
-use mathlib.Core.Logic.{_⊎_, inl, inr, ⊎-elim}
-use mathlib.Core.Bool.{Bool, true, false, cond}
+use mathlib.Core.Path.{_≡_, refl, sym, ap, ap₂, fun-ext}
+use mathlib.Core.Logic.{_⊎_, inl, inr}
+use mathlib.Core.Bool.{Bool}
 use mathlib.Core.List.{List, [], _∷_, _++_}
-use Prim.Native.Nat.{ℕ, zero, suc}
+use Prim.Native.Nat.{ℕ}
 use native.Mathlib.Decide.{ℕ-discrete}
 use Rattle.order.specs.Order.{Event, idle, mark, send, receipt}
 use Rattle.machine.specs.Machine.{put, Entry, absent, present, Letter, State, start, marked, takeCount, takeFlag, received, step, whole, full}
-use Rattle.machine.specs.Short.{Knowledge, offer, Short, brief, short}
+use Rattle.machine.specs.Short.{Knowledge, brief, short}
 use Rattle.machine.specs.Answer.{Answer, answer, answers}
 use Rattle.machine.proofs.Small.{offer-cases, put-same, put-other}
 
@@ -53,10 +53,13 @@ module _ {s t : State} (g : Agrees s t) where
     where
       L : Letter
       L = record { from = i; entry = says i j }
+
       M : Letter
       M = record { from = i; entry = λ k. present (t .count i k) (t .flag i k) }
+
       sent : (k : ℕ) → (says i j k ≡ absent) ⊎ (says i j k ≡ present (t .count i k) (t .flag i k))
       sent k = rw (← g .counts, ← g .flags) (h k)
+
       letter : (l k : ℕ) → Dec (m ≡ l)
           → (put m L (s .letter) l .entry k ≡ absent) ⊎ (put m L (s .letter) l .entry k ≡ put m M (t .letter) l .entry k)
       letter l k (yes e) = rw (← e, put-same m L (s .letter), put-same m M (t .letter)) (sent k)

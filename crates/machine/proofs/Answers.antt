@@ -2,8 +2,8 @@
 -- it. The newest mark's answer is read off what the machine's row describes; an older one's stays right as the cut grows.
 -- Assumes nothing.
 use mathlib.Core.Path.{_≡_, refl, sym, _∙_, ap, subst, fun-ext}
-use mathlib.Core.Logic.{_⊎_, inl, inr, ⊎-elim, _↔_}
-use mathlib.Core.Bool.{Bool, true}
+use mathlib.Core.Logic.{⊎-elim}
+use mathlib.Core.Bool.{true}
 use mathlib.Core.List.{List, [], _∷_, _++_, append-nil, append-assoc, List·Memᴰ, List·Memᴰ·head, Memᴰ·append-left, Memᴰ·append-right, List·Memᴰ·append-cases, List·Memᴰ·eq-of-singleton, List·Memᴰ·not-nil}
 use Prim.Native.Nat.{ℕ, suc, _<_, _≤_}
 use native.Mathlib.Nat.{le-refl}
@@ -14,10 +14,10 @@ use Rattle.order.specs.Order.{Event, idle, mark, send, receipt, At, at-head, at
 use Rattle.order.proofs.Places.{at-bound, at-down, at-unique}
 use Rattle.order.proofs.Before.{before-forward, before-up, before-down}
 use Rattle.order.proofs.Counts.{counts-same}
-use Rattle.order.proofs.Marks.{stamp-unique, numbered-number, numbered-before, numbered-place}
+use Rattle.order.proofs.Marks.{stamp-unique, nearest-unique, numbered-number, numbered-before, numbered-place}
 use Rattle.order.proofs.Growing.{stamp-grown, numbered-grown, nearest-grown, sound-cut}
 use Rattle.machine.specs.Machine.{put, State, marked, step, full}
-use Rattle.machine.specs.Answer.{Answer, flagged, answer, answers, Right}
+use Rattle.machine.specs.Answer.{Answer, answer, answers, Right}
 use Rattle.machine.proofs.Small.{differ, put-same}
 use Rattle.machine.proofs.Known.{Known, known-bound, known-before, before-known, within-known, known-within}
 use Rattle.machine.proofs.Numbers.{marks, numbered-new, numbered-up, numbered-down, numbered-exists, numbered-bound, counts-first}
@@ -51,7 +51,7 @@ module _ {n : ℕ} (past : List Event) (i : ℕ) (ok : Sound n past) (within : i
       let m = numbered-exists k past (s .count i k) (t .0) (v .fits k) in
       let o = v .first k .1 (m .0) (s .count i k) (m .1) (le-refl _) in
       let apart : (l g : ℕ) → At es g (mark l) → Before es (m .0) g → ¬ Before es g (length past) =
-          λ l g a b c. let w = preds g c in let z = known-bound i g w in t .1 (m .0) g l (m .1) (at-down z a) w (before-down z b) in
+      λ l g a b c. let w = preds g c in let z = known-bound i g w in t .1 (m .0) g l (m .1) (at-down z a) w (before-down z b) in
       (m .0, numbered-up (m .1), (at-tail (m .1 .0), known-before (m .0) o, apart))
 
   -- and every direct predecessor is named by its flag
@@ -63,12 +63,13 @@ module _ {n : ℕ} (past : List Event) (i : ℕ) (ok : Sound n past) (within : i
     where
       old : Numbered past k f r
       old = let b = before-forward (near .1) in numbered-down (b .0) m
+
       latest : Dec (s .count i k ≤ r) → r ≡ s .count i k
       latest (yes h) = omega (arith, v .first k .0 f r old (preds f (near .1)))
       latest (no h) =
           let q = numbered-exists k past (s .count i k) (omega arith) (v .fits k) in
           absurd (near .2 k (q .0) (at-tail (q .1 .0)) (before-up (numbered-before old (q .1) (omega arith)))
-            (known-before (q .0) (v .first k .1 (q .0) (s .count i k) (q .1) (le-refl _))))
+          (known-before (q .0) (v .first k .1 (q .0) (s .count i k) (q .1) (le-refl _))))
 
   number : put i (put i (suc (s .count i i)) (s .count i)) (s .count) i i ≡ suc (marks i past)
   number =
@@ -91,7 +92,7 @@ module _ {n : ℕ} (past : List Event) (i : ℕ) (ok : Sound n past) (within : i
         listed = λ k c. (
           λ m. let h = flagged-out (s .count i) (s .flag i) n k c m in rw (h .2) (flag-nearest k (h .1)),
           λ y. let h = nearest-flag k (y .0) c (y .1) (y .2) in
-            rw (h .1) (flagged-in (s .count i) (s .flag i) n k (mark-node (sound-cons {e = mark i} within ok) (y .1 .0)) (h .0)),
+              rw (h .1) (flagged-in (s .count i) (s .flag i) n k (mark-node (sound-cons {e = mark i} within ok) (y .1 .0)) (h .0)),
         );
         ascending = flagged-ascending (s .count i) (s .flag i) n;
       }
@@ -106,9 +107,9 @@ right-grown past later old r =
       stamped = λ k. stamp-grown past later old .0 (r .stamped k);
       listed = λ k c. (
         λ m. let y = r .listed k c .0 m in
-          (y .0, numbered-grown past later (at-bound (y .1 .0)) .0 (y .1), nearest-grown past later old .0 (y .2)),
+            (y .0, numbered-grown past later (at-bound (y .1 .0)) .0 (y .1), nearest-grown past later old .0 (y .2)),
         λ y. let z = nearest-grown past later old .1 (y .2) in
-          r .listed k c .1 (y .0, numbered-grown past later (at-bound (z .0)) .1 (y .1), z),
+            r .listed k c .1 (y .0, numbered-grown past later (at-bound (z .0)) .1 (y .1), z),
       );
       ascending = r .ascending;
     }
@@ -126,14 +127,24 @@ right-unique {a = a} {b = b} r s = same
   where
     node : a .node ≡ b .node
     node = let h = at-unique (r .numbered .0) (s .numbered .0) in cc
+
     stamp : a .stamp ≡ b .stamp
     stamp = fun-ext (λ k. stamp-unique (r .stamped k) (s .stamped k))
+
     nearest : a .nearest ≡ b .nearest
     nearest =
         ascending-same (r .ascending) (s .ascending)
         (λ k c m. s .listed k c .1 (r .listed k c .0 m)) (λ k c m. r .listed k c .1 (s .listed k c .0 m))
+
     same : _≡_ {A = Answer} (record { node = a .node; stamp = a .stamp; nearest = a .nearest }) (record { node = b .node; stamp = b .stamp; nearest = b .nearest })
     same = rw (node, stamp, nearest)
+
+-- a right answer lists at most one mark of each node
+pub listed-once : {es : List Event} {p : ℕ} {a : Answer} → Right es p a → (k c d : ℕ) → List·Memᴰ (k, c) (a .nearest) → List·Memᴰ (k, d) (a .nearest) → c ≡ d
+listed-once r k c d m n =
+    let x = r .listed k c .0 m in
+    let y = r .listed k d .0 n in
+    numbered-number (rw (nearest-unique (x .2) (y .2)) at (x .1)) (y .1)
 
 -- ---- all answers to a cut
 
@@ -174,6 +185,7 @@ answer-marked {n} {a = a} (sound-cons {e = e} {past = past} h ok) m = go e h (an
   where
     old : (x : Event) → (p : ℕ) × Right past p a → (p : ℕ) × Right (x ∷ past) p a
     old x r = (r .0, right-grown past (x ∷ []) (at-bound (r .1 .numbered .0)) (r .1))
+
     go : (x : Event) → Allowed n past x → (List·Memᴰ a (answers n full past) → (p : ℕ) × Right past p a)
         → List·Memᴰ a (answers n full (x ∷ past)) → (p : ℕ) × Right (x ∷ past) p a
     go (idle i) h rec m = old (idle i) (rec m)

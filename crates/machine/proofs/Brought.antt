@@ -1,19 +1,18 @@
 -- A bit of a column is set exactly if that node has brought that very count, of the messages received: by induction on the
 -- cut, since a receipt never leaves less than it brings. So the columns are honest.
 -- Assumes nothing.
-use mathlib.Core.Path.{_≡_, refl, sym, _∙_, ap, subst}
+use mathlib.Core.Path.{_≡_, refl, sym, _∙_}
 use mathlib.Core.Logic.{_⊎_, inl, inr, _≢_, ⊎-elim, _↔_}
-use mathlib.Core.Bool.{Bool, true, false, _&&_, cond}
+use mathlib.Core.Bool.{Bool, true, false}
 use mathlib.Core.List.{List, [], _∷_}
 use Prim.Native.Nat.{ℕ, suc, _<_, _≤_, max}
-use native.Mathlib.Nat.{le-refl}
 use native.Mathlib.Decide.{ℕ-discrete, decLt}
 use native.Mathlib.Omega.{arith}
 use borrow.Author.Tests.{lt-ltb, le-ltb}
 use Rattle.order.specs.Order.{Event, idle, mark, send, receipt, Flying, Sound, sound-nil, sound-cons, Allowed}
 use Rattle.order.proofs.Places.{flying-unique}
 use Rattle.machine.specs.Machine.{put, Entry, absent, present, State, marked, takeCount, received, step}
-use Rattle.machine.specs.Short.{Knowledge, Short, brief, short, Columns, note, learnColumns, columns}
+use Rattle.machine.specs.Short.{Knowledge, brief, short, Columns, note, learnColumns, columns}
 use Rattle.machine.specs.History.{Carries, Brought, brought-now, brought-once}
 use Rattle.machine.proofs.Small.{differ, false-true, absent-present, and-true, put-same, put-other, put-cases, put-inverse}
 use Rattle.machine.proofs.Honest.{Honest, rises}
@@ -77,12 +76,16 @@ module _ (past : List Event) where
     where
       R : ℕ → ℕ
       R = put a (suc (s .count a a)) (s .count a)
+
       Q : ℕ → ℕ → Bool
       Q = put a (λ j. false) (held a)
+
       quiet : {i : ℕ} → (m : ℕ) → mark a ≢ receipt i m
       quiet m = differ (λ z. omega arith)
+
       none : ¬ Brought columns a j a (suc (s .count a a)) (mark a ∷ past)
       none b = let h = brought-had (brought-quiet quiet .1 b) in omega arith
+
       go : Dec (a ≡ i) → Dec (a ≡ k) → (put a Q held i k j ≡ true) ↔ Brought columns i j k (put a R (s .count) i k) (mark a ∷ past)
       go (yes x) (yes y) =
           rw (← x, ← y, put-same a Q held, put-same a (λ j. false) (held a), put-same a R (s .count), put-same a (suc (s .count a a)) (s .count a))
@@ -136,7 +139,7 @@ module _ (past : List Event) where
       noted-equal l = (
         put-inverse (λ z. z ≡ true) o true (held b k) j (λ q h. rw l (now q)) (λ q h. brought-once (t b j k .0 h)),
         λ h. put-cases (λ z. z ≡ true) o true (held b k) j (λ q. refl)
-          (λ q. ⊎-elim (λ h. t b j k .1 h) (λ n. absurd (q (n .0))) (brought-then h)),
+            (λ q. ⊎-elim (λ h. t b j k .1 h) (λ n. absurd (q (n .0))) (brought-then h)),
       )
 
       noted-present : Noted (present d y)
@@ -145,6 +148,7 @@ module _ (past : List Event) where
         where
           c : ℕ
           c = s .count b k
+
           go : Dec (c < d) → Dec (d < c) → Noted (present d y)
           go (yes u) v = let z : max c d ≡ d = omega arith in rw (lt-ltb c d u, z) (noted-larger u)
           go (no u) (yes v) = let z : max c d ≡ c = omega arith in rw (le-ltb c d (omega arith), lt-ltb d c v, z) (noted-smaller v)
@@ -160,8 +164,10 @@ module _ (past : List Event) where
     where
       R : ℕ → ℕ
       R k = takeCount (s .count b k) (s .letter m .entry k)
+
       Q : ℕ → ℕ → Bool
       Q k = note (s .letter m .from) (s .count b k) (s .letter m .entry k) (held b k)
+
       go : Dec (b ≡ i) → (put b Q held i k j ≡ true) ↔ Brought columns i j k (put b R (s .count) i k) (receipt b m ∷ past)
       go (yes q) = rw (← q, put-same b Q held, put-same b R (s .count), truthful columns past m o b p f .0) (noted t b m o p f j k (s .letter m .entry k) refl)
       go (no q) = rw (put-other b Q held i q, put-other b R (s .count) i q) (exact-quiet (λ l h. q (cc)) (t i j k))

@@ -66,7 +66,7 @@ module _ {x : Event} {past : List Event} where
         );
         flags = λ k. (
           λ h. let t = v .flags k .0 h in
-            (t .0, λ p g l n a s b. t .1 p g l (numbered-old n (v .fits k)) (at-down (v .bound g s) a) s (before-down (v .bound g s) b)),
+              (t .0, λ p g l n a s b. t .1 p g l (numbered-old n (v .fits k)) (at-down (v .bound g s) a) s (before-down (v .bound g s) b)),
           λ h. v .flags k .1 (h .0, λ p g l n a s b. h .1 p g l (numbered-up n) (at-tail a) s (before-up b)),
         );
       }
@@ -101,26 +101,26 @@ module _ {es : List Event} {S T : ℕ → Type 0} {c d : ℕ → ℕ} {f g : ℕ
   joined-larger : (k : ℕ) → c k < d k → meet (c k) (f k) (d k) (g k) ≡ g k → Joined k (d k)
   joined-larger k l e = (
     λ h. let t = w .flags k .0 (sym e ∙ h) in
-      (t .0, λ p o m n a s b. ⊎-elim (λ s. let q = v .first k .0 p (d k) n (v .closed o p s b) in omega arith) (λ s. t .1 p o m n a s b) s),
+        (t .0, λ p o m n a s b. ⊎-elim (λ s. let q = v .first k .0 p (d k) n (v .closed o p s b) in omega arith) (λ s. t .1 p o m n a s b) s),
     λ h. e ∙ w .flags k .1 (h .0, λ p o m n a s. h .1 p o m n a (inr s)),
   )
 
   joined-smaller : (k : ℕ) → d k < c k → meet (c k) (f k) (d k) (g k) ≡ f k → Joined k (c k)
   joined-smaller k l e = (
     λ h. let t = v .flags k .0 (sym e ∙ h) in
-      (t .0, λ p o m n a s b. ⊎-elim (λ s. t .1 p o m n a s b) (λ s. let q = w .first k .0 p (c k) n (w .closed o p s b) in omega arith) s),
+        (t .0, λ p o m n a s b. ⊎-elim (λ s. t .1 p o m n a s b) (λ s. let q = w .first k .0 p (c k) n (w .closed o p s b) in omega arith) s),
     λ h. e ∙ v .flags k .1 (h .0, λ p o m n a s. h .1 p o m n a (inl s)),
   )
 
   joined-equal : (k : ℕ) → c k ≡ d k → meet (c k) (f k) (d k) (g k) ≡ f k && g k → Joined k (c k)
   joined-equal k l e = (
     λ h. let y = and-true (f k) (g k) (sym e ∙ h) in
-      let t = v .flags k .0 (y .0) in
-      let u = rw (← l) at (w .flags k .0 (y .1) .1) in
-      (t .0, λ p o m n a s b. ⊎-elim (λ s. t .1 p o m n a s b) (λ s. u p o m n a s b) s),
+        let t = v .flags k .0 (y .0) in
+        let u = rw (← l) at (w .flags k .0 (y .1) .1) in
+        (t .0, λ p o m n a s b. ⊎-elim (λ s. t .1 p o m n a s b) (λ s. u p o m n a s b) s),
     λ h. let x = v .flags k .1 (h .0, λ p o m n a s. h .1 p o m n a (inl s)) in
-      let y = w .flags k .1 (rw (← l) (h .0, λ p o m n a s. h .1 p o m n a (inr s))) in
-      e ∙ rw (x, y),
+        let y = w .flags k .1 (rw (← l) (h .0, λ p o m n a s. h .1 p o m n a (inr s))) in
+        e ∙ rw (x, y),
   )
 
   joined : (k : ℕ) → Meets (c k) (f k) (d k) (g k) → Joined k (max (c k) (d k))
@@ -163,8 +163,11 @@ module _ {past : List Event} (i : ℕ) {S : ℕ → Type 0} {c : ℕ → ℕ} {f
       λ p r n h. ⊎-elim (λ e. inl (e .1)) (λ o. inr (u .first i .1 p r o (omega (arith, numbered-bound o .1)))) (numbered-cases n),
     ),
     (
-      λ h. (omega arith, λ p g l n a s b. let o = before-forward b in
-        ⊎-elim (λ d. let z = d .1 in omega arith) (λ y. let z = numbered-bound y in omega arith) (numbered-cases n)),
+      λ h. (
+        omega arith,
+        λ p g l n a s b. let o = before-forward b in
+            ⊎-elim (λ d. let z = d .1 in omega arith) (λ y. let z = numbered-bound y in omega arith) (numbered-cases n),
+      ),
       λ h. refl,
     ),
   )
@@ -174,13 +177,13 @@ module _ {past : List Event} (i : ℕ) {S : ℕ → Type 0} {c : ℕ → ℕ} {f
     omega (arith, u .fits k, marks-rise k (mark i) past),
     (
       λ p r n s. let o = old n in let b = numbered-bound o in
-        ⊎-elim (λ e. absurd (omega arith)) (λ s. u .first k .0 p r o s) s,
+          ⊎-elim (λ e. absurd (omega arith)) (λ s. u .first k .0 p r o s) s,
       λ p r n l. inr (u .first k .1 p r (old n) l),
     ),
     (
       λ e. false-true e,
       λ t. let n = numbered-exists k past (c k) (t .0) (u .fits k) in
-        absurd (t .1 (n .0) (length past) i (numbered-up (n .1)) at-head (inl refl) (succs (n .0) (u .first k .1 (n .0) (c k) (n .1) (le-refl _)))),
+          absurd (t .1 (n .0) (length past) i (numbered-up (n .1)) at-head (inl refl) (succs (n .0) (u .first k .1 (n .0) (c k) (n .1) (le-refl _)))),
     ),
   )
     where

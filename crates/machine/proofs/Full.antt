@@ -13,7 +13,7 @@ use lib.ListN.{length}
 use Rattle.order.specs.Order.{Event, idle, mark, send, receipt, nodeOf, Flying, Before, Within, Sound, sound-nil, sound-cons, Allowed}
 use Rattle.order.proofs.Places.{flying-bound, flying-cases}
 use Rattle.order.proofs.Before.{within-up, within-down}
-use Rattle.machine.specs.Machine.{put, Entry, present, Letter, State, start, marked, meet, takeCount, takeFlag, received, step, whole, full}
+use Rattle.machine.specs.Machine.{put, present, Letter, State, start, marked, meet, takeCount, takeFlag, received, step, whole, full}
 use Rattle.machine.proofs.Small.{differ, false-true, put-same, put-other}
 use Rattle.machine.proofs.Known.{Known, known-bound, known-closed, known-at, known-up, known-down, within-known, known-within, known-before, before-known, sent-before, before-receipt}
 use Rattle.machine.proofs.Numbers.{marks, numbered-bound, numbered-exists}
@@ -107,6 +107,7 @@ module _ {past : List Event} {s : State} (t : Faithful past s) where
     where
       preds : (p : ℕ) → Before (mark i ∷ past) p (length past) → Known past i p
       preds = before-known (λ j m. differ (λ z. omega arith))
+
       new : Describes (mark i ∷ past) (Known (mark i ∷ past) i) (put i (suc (s .count i i)) (s .count i)) (put i true (λ k. false))
       new = row-new known-before preds (describes-mark i (t .rows i) (own t i) preds known-before)
 
@@ -120,8 +121,10 @@ module _ {past : List Event} {s : State} (t : Faithful past s) where
     where
       row : (k : ℕ) → Describes (send i j m ∷ past) (Known (send i j m ∷ past) k) (s .count k) (s .flag k)
       row k = row-kept (send i j m) (λ k. differ (λ z. omega arith)) (λ k m. differ (λ z. omega arith)) k (ℕ-discrete i k)
+
       letter : Letter
       letter = record { from = i; entry = λ k. present (s .count i k) (s .flag i k) }
+
       sent : Post (send i j m ∷ past) (length past) letter
       sent =
           record {
@@ -130,6 +133,7 @@ module _ {past : List Event} {s : State} (t : Faithful past s) where
             tells = refl;
             right = describes-same (λ p k. known-within i p refl k) (λ p w. within-known i p refl w) (row i);
           }
+
       post : (l a b q : ℕ) → ((send i j m ≡ send a b l) × (q ≡ length past)) ⊎ ((¬ (m ≡ l)) × Flying l a b past q) → Dec (m ≡ l)
           → Post (send i j m ∷ past) q (put m letter (s .letter) l)
       post l a b q (inl c) (yes e) = rw (← e, c .1, put-same m letter (s .letter)) sent
@@ -147,13 +151,16 @@ module _ {past : List Event} {s : State} (t : Faithful past s) where
     where
       o : Post past a (s .letter m)
       o = t .posts m i j a f
+
       preds : (p : ℕ) → Before (receipt j m ∷ past) p (length past) → Known past j p ⊎ Within past a p
       preds = before-receipt m i j a f
+
       joined : Describes (receipt j m ∷ past) (Known (receipt j m ∷ past) j)
           (λ k. max (s .count j k) (o .counts k)) (λ k. meet (s .count j k) (s .flag j k) (o .counts k) (o .flags k))
       joined =
           row-new (λ p. ⊎-elim (known-before p) (sent-before m i j a f p)) preds
           (describes-add (λ k. differ (λ z. omega arith)) preds (describes-join (t .rows j) (o .right)))
+
       new : Describes (receipt j m ∷ past) (Known (receipt j m ∷ past) j)
           (λ k. takeCount (s .count j k) (s .letter m .entry k)) (λ k. takeFlag (s .count j k) (s .flag j k) (s .letter m .entry k))
       new = rw (o .tells) joined

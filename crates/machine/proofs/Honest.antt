@@ -1,11 +1,11 @@
 -- An honest knowledge is fair: an entry is spared only if its flag is set and the other node has that count or a larger one,
 -- so the entry is idle when it arrives, whenever that is, for counts only rise.
 -- Assumes nothing.
-use mathlib.Core.Path.{_≡_, refl, sym, _∙_, ap}
+use mathlib.Core.Path.{_≡_, refl, _∙_, ap}
 use mathlib.Core.Logic.{_⊎_, inl, inr, _≢_, ⊎-elim}
-use mathlib.Core.Bool.{Bool, true, false, _&&_, cond}
-use mathlib.Core.List.{List, [], _∷_}
-use Prim.Native.Nat.{ℕ, zero, suc, _≤_, max}
+use mathlib.Core.Bool.{Bool, true, false, _&&_}
+use mathlib.Core.List.{List, _∷_}
+use Prim.Native.Nat.{ℕ, suc, _≤_}
 use native.Mathlib.Nat.{le-refl}
 use native.Mathlib.Decide.{ℕ-discrete}
 use native.Mathlib.Omega.{arith}
@@ -14,7 +14,7 @@ use Rattle.order.specs.Order.{Event, idle, mark, send, receipt, Flying, Sound, 
 use Rattle.order.proofs.Places.{flying-bound, flying-cases}
 use Rattle.machine.specs.Machine.{put, Entry, absent, present, Letter, State, marked, meet, takeCount, takeFlag, received, step, whole, full}
 use Rattle.machine.specs.Short.{Knowledge, offer, Short, brief, short}
-use Rattle.machine.proofs.Small.{offer-absent, kind, differ, absent-present, put-same, put-other, put-cases, Meets, larger, smaller, equal, meets, take-rises}
+use Rattle.machine.proofs.Small.{offer-absent, kind, differ, put-same, put-other, put-cases, Meets, larger, smaller, equal, meets, take-rises}
 use Rattle.machine.proofs.Full.{Faithful, faithful}
 use Rattle.machine.proofs.Agree.{Idle, Harmless, Fair, fair-nil, fair-cons, Agrees, agree}
 
@@ -101,8 +101,10 @@ module _ (K : Knowledge) where
       where
         L : Letter
         L = record { from = i; entry = λ k. offer (s .state .count i k) (s .state .flag i k) (K .spares (s .state) (s .held) i j k) }
+
         M : Letter
         M = record { from = i; entry = λ k. present (t .count i k) (t .flag i k) }
+
         sent : (s .state .count i k ≡ 0) ⊎ (K .spares (s .state) (s .held) i j k ≡ true) → Owed (present (t .count i k) (t .flag i k)) (t .count j k)
         sent (inl z) =
             let z = rw (g .counts) at z in
@@ -110,6 +112,7 @@ module _ (K : Knowledge) where
         sent (inr q) =
             let o = rw (g .counts, g .flags) at (honest i j k q) in
             record { count = t .count i k; flag = t .flag i k; told = refl; had = o .1; light = inr (o .0) }
+
         go : ((send i j m ≡ send a b l) × (p ≡ length past)) ⊎ ((¬ (m ≡ l)) × Flying l a b past p) → Dec (m ≡ l)
             → put m L (s .state .letter) l .entry k ≡ absent → Owed (put m M (t .letter) l .entry k) (t .count b k)
         go (inl c) (yes e) h =

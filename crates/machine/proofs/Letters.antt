@@ -3,17 +3,17 @@
 -- Assumes nothing.
 use mathlib.Core.Path.{_≡_, refl, _∙_}
 use mathlib.Core.Logic.{_⊎_, inl, inr, _≢_, ⊎-elim}
-use mathlib.Core.Bool.{Bool, true, false}
+use mathlib.Core.Bool.{Bool}
 use mathlib.Core.List.{List, [], _∷_, _++_}
-use Prim.Native.Nat.{ℕ, zero, suc, _<_, _≤_}
+use Prim.Native.Nat.{ℕ, _≤_}
 use native.Mathlib.Decide.{ℕ-discrete}
 use native.Mathlib.Omega.{arith}
 use lib.ListN.{length, length-append}
 use Rattle.order.specs.Order.{Event, idle, mark, send, receipt, Names, Flying}
 use Rattle.order.proofs.Places.{flying-bound, flying-cases}
-use Rattle.machine.specs.Machine.{put, Entry, absent, present, Letter, State, marked, received, step}
-use Rattle.machine.specs.Short.{Knowledge, offer, Short, brief, short}
-use Rattle.machine.proofs.Small.{offer-present, differ, absent-present, put-same, put-other}
+use Rattle.machine.specs.Machine.{put, Entry, present, Letter, State, marked, received, step}
+use Rattle.machine.specs.Short.{Knowledge, Short, brief, short}
+use Rattle.machine.proofs.Small.{offer-present, differ, put-same, put-other}
 use Rattle.machine.proofs.Honest.{rises}
 
 -- a letter names its sender, and no count that the sender does not have
@@ -36,6 +36,7 @@ module _ {past : List Event} (s : State) (t : Truthful past s) where
     where
       L : Letter
       L = record { from = i; entry = says i j }
+
       go : ((send i j m ≡ send a b l) × (p ≡ length past)) ⊎ ((¬ (m ≡ l)) × Flying l a b past p) → Dec (m ≡ l)
           → (put m L (s .letter) l .from ≡ a) × ((k d : ℕ) (y : Bool) → put m L (s .letter) l .entry k ≡ present d y → d ≤ s .count a k)
       go (inl c) (yes e) = let q = c .0 in let z : i ≡ a = cc in rw (← e, ← z, put-same m L (s .letter)) (refl, h)
@@ -50,6 +51,7 @@ truthful K (e ∷ past) = go e (truthful K past)
   where
     s : Short K
     s = short K past
+
     go : (e : Event) → Truthful past (s .state) → Truthful (e ∷ past) (step (brief s) e (s .state))
     go (idle i) t = truthful-kept (s .state) t (brief s) (idle i) (λ a b m. differ (λ z. omega arith))
     go (mark i) t = truthful-kept (s .state) t (brief s) (mark i) (λ a b m. differ (λ z. omega arith))
@@ -66,8 +68,10 @@ flight-kept K (x ∷ later) past {m} {i} {j} f =
   where
     es : List Event
     es = later ++ (send i j m ∷ past)
+
     L : Letter
     L = record { from = i; entry = brief (short K past) i j }
+
     go : (x : Event) → ¬ Names x m → short K es .state .letter m ≡ L → short K (x ∷ es) .state .letter m ≡ L
     go (idle a) h r = r
     go (mark a) h r = r

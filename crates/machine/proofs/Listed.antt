@@ -1,14 +1,13 @@
 -- The list of the flagged nodes: who is on it, that it ascends, and that an ascending list is known by its members.
 -- Assumes nothing.
-use mathlib.Core.Path.{_≡_, refl, sym, _∙_, ap, ap₂, subst}
-use mathlib.Core.Logic.{_⊎_, inl, inr, ⊎-elim}
+use mathlib.Core.Path.{_≡_, refl, sym, _∙_, ap, ap₂}
+use mathlib.Core.Logic.{⊎-elim}
 use mathlib.Core.Bool.{Bool, true, false, cond}
 use mathlib.Core.List.{List, [], _∷_, _++_, append-nil, List·Memᴰ, List·Memᴰ·head, List·Memᴰ·tail, List·Memᴰ·not-nil, List·Memᴰ·cases-cons, Memᴰ·append-left, Memᴰ·append-right, List·Memᴰ·append-cases, List·Memᴰ·eq-of-singleton}
 use Prim.Native.Nat.{ℕ, zero, suc, _<_}
 use native.Mathlib.Decide.{ℕ-discrete}
 use native.Mathlib.Omega.{arith}
 use Rattle.machine.specs.Answer.{flagged, Ascending, ascending-nil, ascending-cons}
-use Rattle.machine.proofs.Small.{false-true}
 
 same-node : {k l c d : ℕ} → _≡_ {A = ℕ × ℕ} (k, c) (l, d) → k ≡ l
 same-node q = ap (λ (p : ℕ × ℕ). p .0) q
@@ -19,8 +18,8 @@ ascending-last d h ascending-nil = ascending-cons (λ l e m. absurd (List·Mem�
 ascending-last {n} d h (ascending-cons {k = k} {c = c} {rest = rest} o a) =
     ascending-cons
     (λ l e m. ⊎-elim (o l e)
-      (λ m. let q : l ≡ n = same-node (List·Memᴰ·eq-of-singleton m) in rw q (h k c (List·Memᴰ·head refl)))
-      (List·Memᴰ·append-cases rest m))
+    (λ m. let q : l ≡ n = same-node (List·Memᴰ·eq-of-singleton m) in rw q (h k c (List·Memᴰ·head refl)))
+    (List·Memᴰ·append-cases rest m))
     (ascending-last d (λ l e m. h l e (List·Memᴰ·tail m)) a)
 
 module _ (c : ℕ → ℕ) (f : ℕ → Bool) where
@@ -78,13 +77,14 @@ ascending-same (ascending-cons h a) ascending-nil f g = absurd (List·Memᴰ·no
 ascending-same (ascending-cons {k = k} {c = c} {rest = s} h a) (ascending-cons {k = l} {c = d} {rest = t} o b) f g =
     ap₂ _∷_ heads
     (ascending-same a b
-      (λ m e i. let z = h m e i in past-first (omega (arith, same)) (f m e (List·Memᴰ·tail i)))
-      (λ m e i. let z = o m e i in past-first (omega (arith, same)) (g m e (List·Memᴰ·tail i))))
+    (λ m e i. let z = h m e i in past-first (omega (arith, same)) (f m e (List·Memᴰ·tail i)))
+    (λ m e i. let z = o m e i in past-first (omega (arith, same)) (g m e (List·Memᴰ·tail i))))
   where
     same : k ≡ l
     same =
         ⊎-elim same-node
         (λ m. absurd (behind h (o k c m) (g l d (List·Memᴰ·head refl))))
         (List·Memᴰ·cases-cons (f k c (List·Memᴰ·head refl)))
+
     heads : _≡_ {A = ℕ × ℕ} (k, c) (l, d)
     heads = ⊎-elim (λ q. q) (λ m. let z = o k c m in absurd (omega (arith, same))) (List·Memᴰ·cases-cons (f k c (List·Memᴰ·head refl)))

@@ -6,7 +6,6 @@ use mathlib.Core.Logic.{_⊎_, inl, inr, _≢_, ⊎-elim}
 use mathlib.Core.Bool.{cond}
 use mathlib.Core.List.{List, [], _∷_}
 use Prim.Native.Nat.{ℕ, suc, _<_, _≤_, min}
-use native.Mathlib.Nat.{le-refl}
 use native.Mathlib.Decide.{ℕ-discrete, decLe}
 use native.Mathlib.Omega.{arith}
 use lib.Dec.{eqb}
@@ -116,17 +115,20 @@ counts-min k [] S c f d h = let z : d ≡ 0 = omega arith in rw z counts-zero
 counts-min k (e ∷ past) S c f d h =
     go (dec-mark k e) (decLe (suc (marks k past)) c)
     (counts-same (λ p b a. (at-tail (a .0), a .1)) (λ p b a. (at-down b (a .0), a .1))
-      (counts-min k past S c (λ p r n. f .0 p r (numbered-up n), λ p r n. f .1 p r (numbered-up n)) (min c (marks k past)) refl))
+    (counts-min k past S c (λ p r n. f .0 p r (numbered-up n), λ p r n. f .1 p r (numbered-up n)) (min c (marks k past)) refl))
   where
     P : ℕ → Type 0
     P p = At (e ∷ past) p (mark k) × S p
+
     go : Dec (e ≡ mark k) → Dec (suc (marks k past) ≤ c) → Counts P (length past) (min c (marks k past)) → Counts P (suc (length past)) d
     go (yes q) b rec = newest b
       where
         n : Numbered (e ∷ past) k (length past) (suc (marks k past))
         n = rw q (numbered-new k past)
+
         t : d ≡ min c (marks k (mark k ∷ past))
         t = subst (λ (x : Event). d ≡ min c (marks k (x ∷ past))) q h
+
         newest : Dec (suc (marks k past) ≤ c) → Counts P (suc (length past)) d
         newest (yes b) =
             let z : d ≡ suc (min c (marks k past)) = omega (arith, t, marks-same k past) in

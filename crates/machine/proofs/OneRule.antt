@@ -8,7 +8,7 @@ use mathlib.Core.List.{List, _∷_}
 use Prim.Native.Nat.{ℕ}
 use native.Mathlib.Decide.{ℕ-discrete}
 use Rattle.order.specs.Order.{Event, idle, mark, send, receipt, Sound, sound-nil, sound-cons, Flying}
-use Rattle.machine.specs.Machine.{put, Entry, absent, present, Letter, State, marked, received, step}
+use Rattle.machine.specs.Machine.{put, Entry, absent, present, Letter, marked, received, step}
 use Rattle.machine.specs.Short.{Knowledge, brief, short, columns}
 use Rattle.machine.specs.History.{Carries, Brought, brought-now, brought-once, Due}
 use Rattle.machine.proofs.Small.{put-same, put-other}
@@ -69,8 +69,10 @@ module _ {n : ℕ} (K L : Knowledge) (o : Obeys n K) (q : Obeys n L) where
         where
           A : Letter
           A = record { from = i; entry = brief (short K past) i j }
+
           B : Letter
           B = record { from = i; entry = brief (short L past) i j }
+
           go : Dec (l ≡ m) → put l A (short K past .state .letter) m .entry k ≡ put l B (short L past .state .letter) m .entry k
           go (yes e) = rw (← e, put-same l A (short K past .state .letter), put-same l B (short L past .state .letter)) (s i j k)
           go (no e) = rw (put-other l A (short K past .state .letter) m e, put-other l B (short L past .state .letter) m e) (r m k)

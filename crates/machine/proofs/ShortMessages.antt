@@ -1,20 +1,19 @@
 -- Demand 3 for the base's short messages. First half: the columns are honest, so counts, flags and answers are those of full
 -- messages. Second half: a message carries just what the sentence says, since a bit is what was brought.
 -- Assumes nothing.
-use mathlib.Core.Path.{_≡_, refl, sym, _∙_, ap, subst}
+use mathlib.Core.Path.{_≡_, refl, sym, _∙_}
 use mathlib.Core.Logic.{_⊎_, inl, inr, ⊎-elim, _↔_}
 use mathlib.Core.Bool.{Bool, true, false, _&&_}
-use mathlib.Core.List.{List, [], _∷_, _++_}
-use Prim.Native.Nat.{ℕ, zero, suc, _<_}
-use native.Mathlib.Omega.{arith}
+use mathlib.Core.List.{List, _∷_, _++_}
+use Prim.Native.Nat.{ℕ}
 use lib.ListN.{length}
-use Rattle.order.specs.Order.{Event, idle, mark, send, receipt, Flying, Sound, sound-cons}
+use Rattle.order.specs.Order.{Event, send, Flying, Sound, sound-cons}
 use Rattle.order.proofs.Growing.{sound-cut}
-use Rattle.machine.specs.Machine.{Entry, absent, present, Letter, State, full}
-use Rattle.machine.specs.Short.{Knowledge, offer, brief, short, columns}
+use Rattle.machine.specs.Machine.{present, full}
+use Rattle.machine.specs.Short.{brief, short, columns}
 use Rattle.machine.specs.History.{Brought, Due}
 use Rattle.machine.specs.Answer.{answers}
-use Rattle.machine.proofs.Small.{offer-present, offer-kept, false-true, true-false}
+use Rattle.machine.proofs.Small.{offer-present, offer-kept, true-false}
 use Rattle.machine.proofs.Agree.{Fair, fair-counts, fair-flags, fair-answers}
 use Rattle.machine.proofs.Honest.{honest-fair}
 use Rattle.machine.proofs.Letters.{flight-kept}
@@ -50,6 +49,7 @@ module _ {n : ℕ} {past : List Event} (ok : Sound n past) (i j k : ℕ) where
     where
       brought : (bit ≡ true) ↔ Brought columns i j k c past
       brought = rw e at (columns-exact ok i j k)
+
       clear : (y : Bool) → (y ≡ true → ⊥) → y ≡ false
       clear true h = absurd (h refl)
       clear false h = refl
@@ -59,10 +59,10 @@ module _ {n : ℕ} {past : List Event} (ok : Sound n past) (i j k : ℕ) where
   unfolding brief
   carried-exactly c x = (
     λ h. let o = offer-present _ _ _ h in
-      (sym (o .0) ∙ short-counts ok i k, sym (o .1) ∙ short-flags ok i k, o .2, spared c x (o .0) .0 (rw (o .1) at (o .3))),
+        (sym (o .0) ∙ short-counts ok i k, sym (o .1) ∙ short-flags ok i k, o .2, spared c x (o .0) .0 (rw (o .1) at (o .3))),
     λ h. let e = short-counts ok i k ∙ sym (h .0) in
-      let f = short-flags ok i k ∙ sym (h .1) in
-      rw (e, f, spared c x e .1 (h .3)) (offer-kept c x (h .2)),
+        let f = short-flags ok i k ∙ sym (h .1) in
+        rw (e, f, spared c x e .1 (h .3)) (offer-kept c x (h .2)),
   )
 
 -- and so it is for a message still in flight, whatever came after its send

@@ -3,14 +3,14 @@
 -- Assumes nothing.
 use mathlib.Core.Path.{_≡_, refl}
 use mathlib.Core.Bool.{Bool, true, false, cond, _&&_, _||_}
-use mathlib.Core.List.{List, [], _∷_, _++_, map}
+use mathlib.Core.List.{List, [], _∷_, _++_}
 use Prim.Native.Nat.{ℕ, zero, suc}
 use lib.Dec.{eqb, ltb}
 use lib.ListN.{drop}
 use Rattle.order.specs.Order.{Event, idle, mark, send, receipt}
 use Rattle.order.specs.Flight.{Message, without, inFlight}
 use Rattle.order.proofs.Samples.{cutA, cutB}
-use Rattle.machine.specs.Machine.{put, Entry, absent, present, Letter, State, start, marked, meet, takeCount, takeFlag, received, step, whole, full}
+use Rattle.machine.specs.Machine.{put, Entry, absent, present, State, start, marked, meet, takeCount, takeFlag, received, step, whole, full}
 use Rattle.machine.specs.Short.{Knowledge, offer, brief, short, Columns, note, learnColumns, columns}
 use Rattle.machine.specs.Answer.{flagged}
 

@@ -1,7 +1,7 @@
 -- The totals are what their names say: events, marks and sends are counted over the cut, a full send carries n entries, and
 -- a short one as many as are due.
 -- Assumes nothing.
-use mathlib.Core.Path.{_≡_, refl, sym, _∙_, ap}
+use mathlib.Core.Path.{_≡_, refl, sym, _∙_, ap, ap₂}
 use mathlib.Core.Logic.{_≢_, ⊎-elim}
 use mathlib.Core.Bool.{Bool}
 use mathlib.Core.List.{List, [], _∷_}
@@ -9,14 +9,14 @@ use Prim.Native.Nat.{ℕ, zero, suc, _+_, _*_}
 use native.Mathlib.Nat.{mul-zero, mul-suc}
 use native.Mathlib.Omega.{arith}
 use lib.ListN.{length}
-use Rattle.order.specs.Order.{Event, idle, mark, send, receipt, At, at-head, at-tail, Sound, Counts, counts-zero, counts-yes, counts-no}
+use Rattle.order.specs.Order.{Event, idle, mark, send, receipt, At, at-head, at-tail, Sound, sound-nil, sound-cons, Counts, counts-zero, counts-yes, counts-no}
 use Rattle.order.proofs.Places.{at-bound, at-cases, at-down}
-use Rattle.order.proofs.Counts.{counts-same}
+use Rattle.order.proofs.Counts.{counts-unique, counts-same}
 use Rattle.machine.specs.Machine.{Entry, absent, present, State, whole, full}
-use Rattle.machine.specs.Short.{brief, short, columns}
-use Rattle.machine.specs.History.{Due}
+use Rattle.machine.specs.Short.{Knowledge, brief, short, columns}
+use Rattle.machine.specs.History.{Due, DueInAll, none-due, send-due, other-due}
 use Rattle.machine.specs.Answer.{one, entries, Totals, more, totals}
-use Rattle.machine.proofs.Small.{kind, absent-present}
+use Rattle.machine.proofs.Small.{kind, differ, absent-present}
 use Rattle.machine.proofs.ShortMessages.{carried-exactly}
 
 -- ---- the entries of one message
@@ -121,3 +121,26 @@ full-carried n (send i j m ∷ past) =
     let t = totals n (λ past. whole (full past)) past in
     omega (arith, full-carried n past, full-entries n (full past) i j, mul-suc n (t .sends))
 full-carried n (receipt j m ∷ past) = full-carried n past
+
+-- short messages carry what is due, in all
+pub short-carried : {n : ℕ} {es : List Event} → Sound n es → DueInAll columns n es (totals n (λ past. brief (short columns past)) es .carried)
+unfolding totals more
+short-carried sound-nil = none-due
+short-carried {n} (sound-cons {e = e} {past = past} a ok) = go e (short-carried ok)
+  where
+    T : List Event → Totals
+    T es = totals n (λ past. brief (short columns past)) es
+
+    go : (e : Event) → DueInAll columns n past (T past .carried) → DueInAll columns n (e ∷ past) (T (e ∷ past) .carried)
+    go (idle i) r = other-due {e = idle i} (λ a b l. differ (λ z. omega arith)) r
+    go (mark i) r = other-due {e = mark i} (λ a b l. differ (λ z. omega arith)) r
+    go (send i j m) r = send-due (short-entries ok i j) r
+    go (receipt j m) r = other-due {e = receipt j m} (λ a b l. differ (λ z. omega arith)) r
+
+-- which is one number
+pub due-unique : {K : Knowledge} {n : ℕ} {es : List Event} {t u : ℕ} → DueInAll K n es t → DueInAll K n es u → t ≡ u
+due-unique none-due none-due = refl
+due-unique (send-due c r) (send-due d s) = ap₂ _+_ (due-unique r s) (counts-unique c d)
+due-unique (send-due {i = i} {j = j} {m = m} c r) (other-due h s) = absurd (h i j m refl)
+due-unique (other-due h r) (send-due {i = i} {j = j} {m = m} c s) = absurd (h i j m refl)
+due-unique (other-due h r) (other-due k s) = due-unique r s

@@ -18,7 +18,7 @@ use Rattle.log.specs.declared.Node.{Node}
 use Rattle.log.specs.declared.MessageNumber.{MessageNumber}
 use Rattle.log.specs.declared.Record.{Record}
 use Rattle.log.specs.declared.Record.the-variants.{Idle, Mark, Send, Receipt}
-use Rattle.log.specs.Verdict.{eventOf, any, full, crowded, flies, fliesElsewhere, Rule, rule, rules, firstBroken}
+use Rattle.log.specs.Verdict.{eventOf, any, filled, crowded, flies, fliesElsewhere, Rule, rule, rules, firstBroken}
 use Rattle.log.specs.Table.{Breaks, breaks-12, breaks-6, breaks-6-to, breaks-7, breaks-8, breaks-9, breaks-10, breaks-11, Room, Passes}
 
 -- ---- tests over the messages in flight
@@ -91,7 +91,7 @@ pub data Judged (n : ℕ) (cut : List Event) (p : ℕ) (r : Record) : Option Rul
 module _ (n : ℕ) (cut : List Event) (p : ℕ) where
   -- an event that neither sends nor receives
   judge-quiet : (r : Record) → (nodeOf (eventOf r) < n → Allowed n cut (eventOf r) × Room cut (eventOf r))
-      → (b₁ b₂ : Bool) → full cut ≡ b₁ → leb n (nodeOf (eventOf r)) ≡ b₂
+      → (b₁ b₂ : Bool) → filled cut ≡ b₁ → leb n (nodeOf (eventOf r)) ≡ b₂
       → Judged n cut p r (firstBroken (rule 12 p b₁ ∷ rule 6 (p + 1) b₂ ∷ []))
   judge-quiet r allowed true b₂ e₁ e₂ = judged-breaks (breaks-12 (leb-true _ _ e₁))
   judge-quiet r allowed false true e₁ e₂ = judged-breaks (breaks-6 (leb-false _ _ e₁) (leb-true _ _ e₂))
@@ -99,7 +99,7 @@ module _ (n : ℕ) (cut : List Event) (p : ℕ) where
       let a = allowed (leb-false _ _ e₂) in judged-passes (leb-false _ _ e₁, a .0, a .1)
 
   judge-send : (i j : Node) (m : MessageNumber) (b₁ b₂ b₃ b₄ b₅ b₆ : Bool)
-      → full cut ≡ b₁ → leb n (i .0) ≡ b₂ → leb n (j .0) ≡ b₃ → eqb (i .0) (j .0) ≡ b₄ → flies (m .0) cut ≡ b₅
+      → filled cut ≡ b₁ → leb n (i .0) ≡ b₂ → leb n (j .0) ≡ b₃ → eqb (i .0) (j .0) ≡ b₄ → flies (m .0) cut ≡ b₅
       → crowded cut ≡ b₆
       → Judged n cut p (Send i j m)
       (firstBroken (rule 12 p b₁ ∷ rule 6 (p + 1) b₂ ∷ rule 6 (p + 2) b₃ ∷ rule 7 (p + 2) b₄ ∷ rule 8 (p + 3) b₅ ∷ rule 9 p b₆ ∷ []))
@@ -118,7 +118,7 @@ module _ (n : ℕ) (cut : List Event) (p : ℕ) where
       judged-passes (leb-false _ _ e₁, (leb-false _ _ e₂, leb-false _ _ e₃, eqb-false _ _ e₄, flies-false (m .0) cut e₅), leb-false _ _ e₆)
 
   judge-receipt : (j : Node) (m : MessageNumber) (b₁ b₂ b₃ b₄ : Bool)
-      → full cut ≡ b₁ → leb n (j .0) ≡ b₂ → flies (m .0) cut ≡ b₃ → fliesElsewhere (m .0) (j .0) cut ≡ b₄
+      → filled cut ≡ b₁ → leb n (j .0) ≡ b₂ → flies (m .0) cut ≡ b₃ → fliesElsewhere (m .0) (j .0) cut ≡ b₄
       → Judged n cut p (Receipt j m) (firstBroken (rule 12 p b₁ ∷ rule 6 (p + 1) b₂ ∷ rule 10 (p + 2) (not b₃) ∷ rule 11 (p + 2) b₄ ∷ []))
   judge-receipt j m true b₂ b₃ b₄ e₁ e₂ e₃ e₄ = judged-breaks (breaks-12 (leb-true _ _ e₁))
   judge-receipt j m false true b₃ b₄ e₁ e₂ e₃ e₄ = judged-breaks (breaks-6 (leb-false _ _ e₁) (leb-true _ _ e₂))
@@ -145,12 +145,12 @@ module _ (n : ℕ) (cut : List Event) (p : ℕ) where
 
   -- ---- and the table's row is the first broken rule
 
-  full-first : 4096 ≤ length cut → (r : Record) → firstBroken (rules n cut p r) ≡ some (rule 12 p true)
+  filled-first : 4096 ≤ length cut → (r : Record) → firstBroken (rules n cut p r) ≡ some (rule 12 p true)
   unfolding rules
-  full-first h (Idle i) = simp (le-leb _ _ h)
-  full-first h (Mark i) = simp (le-leb _ _ h)
-  full-first h (Send i j m) = simp (le-leb _ _ h)
-  full-first h (Receipt j m) = simp (le-leb _ _ h)
+  filled-first h (Idle i) = simp (le-leb _ _ h)
+  filled-first h (Mark i) = simp (le-leb _ _ h)
+  filled-first h (Send i j m) = simp (le-leb _ _ h)
+  filled-first h (Receipt j m) = simp (le-leb _ _ h)
 
   stranger-first : length cut < 4096 → (r : Record) → n ≤ nodeOf (eventOf r) → firstBroken (rules n cut p r) ≡ some (rule 6 (p + 1) true)
   unfolding rules
@@ -161,7 +161,7 @@ module _ (n : ℕ) (cut : List Event) (p : ℕ) where
 
   pub breaks-first : {r : Record} {x q : ℕ} → Breaks n cut p r x q → firstBroken (rules n cut p r) ≡ some (rule x q true)
   unfolding rules
-  breaks-first (breaks-12 {r = r} h) = full-first h r
+  breaks-first (breaks-12 {r = r} h) = filled-first h r
   breaks-first (breaks-6 {r = r} h k) = stranger-first h r k
   breaks-first (breaks-6-to h a b) = simp (lt-leb _ _ h, lt-leb _ _ a, le-leb _ _ b)
   breaks-first (breaks-7 h a b s) = simp (lt-leb _ _ h, lt-leb _ _ a, lt-leb _ _ b, eq-eqb _ _ s)

@@ -37,8 +37,8 @@ any test [] = false
 any test (x ∷ xs) = test x || any test xs
 
 -- the cut has as many events as a log may have; and as many messages in flight
-abbrev pub full : List Event → Bool
-full cut = leb 4096 (length cut)
+abbrev pub filled : List Event → Bool
+filled cut = leb 4096 (length cut)
 
 abbrev pub crowded : List Event → Bool
 crowded cut = leb 128 (length (inFlight cut))
@@ -62,22 +62,22 @@ rule x p b = record { number = x; place = p; broken = b }
 -- The rules for a whole record at place p, in the order in which they are tested, for n nodes after the events of cut.
 unfoldable pub rules : ℕ → List Event → ℕ → Record → List Rule
 rules n cut p (Idle i) =
-    rule 12 p (full cut)
+    rule 12 p (filled cut)
     ∷ rule 6 (p + 1) (leb n (i .0))
     ∷ []
 rules n cut p (Mark i) =
-    rule 12 p (full cut)
+    rule 12 p (filled cut)
     ∷ rule 6 (p + 1) (leb n (i .0))
     ∷ []
 rules n cut p (Send i j m) =
-    rule 12 p (full cut)
+    rule 12 p (filled cut)
     ∷ rule 6 (p + 1) (leb n (i .0)) ∷ rule 6 (p + 2) (leb n (j .0))
     ∷ rule 7 (p + 2) (eqb (i .0) (j .0))
     ∷ rule 8 (p + 3) (flies (m .0) cut)
     ∷ rule 9 p (crowded cut)
     ∷ []
 rules n cut p (Receipt j m) =
-    rule 12 p (full cut)
+    rule 12 p (filled cut)
     ∷ rule 6 (p + 1) (leb n (j .0))
     ∷ rule 10 (p + 2) (not (flies (m .0) cut))
     ∷ rule 11 (p + 2) (fliesElsewhere (m .0) (j .0) cut)

@@ -8,7 +8,7 @@ use Rattle.order.specs.Order.{Event, idle, mark, send, receipt}
 use Rattle.order.proofs.Samples.{cutA, cutB}
 use Rattle.machine.specs.Machine.{put, State, start, marked, meet, takeCount, takeFlag, received, step, whole, full}
 use Rattle.machine.specs.Short.{offer, brief, short, note, learnColumns, columns}
-use Rattle.machine.specs.Answer.{Answer, flagged, answer, answers, one, entries, Totals, more, totals}
+use Rattle.machine.specs.Answer.{Answer, flagged, answer, answers, weight, entries, Totals, more, totals}
 
 -- the first n values of a function
 unfoldable pub firsts : ℕ → (ℕ → ℕ) → List ℕ
@@ -76,5 +76,5 @@ run state r =
     (totals (r .nodes) (λ past. brief (short columns past)) (r .cut))
 
 pub cases-hold : (map (run full) cases ≡ cases) × (map (run (λ es. short columns es .state)) cases ≡ cases)
-unfolding firsts loads answers answer flagged one entries more totals full whole step start marked received meet takeCount takeFlag put short brief offer note learnColumns
+unfolding firsts loads answers answer flagged weight entries more totals full whole step start marked received meet takeCount takeFlag put short brief offer note learnColumns
 cases-hold = (refl, refl)

@@ -15,19 +15,19 @@ use Rattle.order.proofs.Counts.{counts-unique, counts-same}
 use Rattle.machine.specs.Machine.{Entry, absent, present, State, whole, full}
 use Rattle.machine.specs.Short.{Knowledge, brief, short, columns}
 use Rattle.machine.specs.History.{Due, DueInAll, none-due, send-due, other-due}
-use Rattle.machine.specs.Answer.{one, entries, Totals, more, totals}
+use Rattle.machine.specs.Answer.{weight, entries, Totals, more, totals}
 use Rattle.machine.proofs.Small.{kind, differ, absent-present}
 use Rattle.machine.proofs.ShortMessages.{carried-exactly}
 
 -- ---- the entries of one message
 
 entries-counted : (n : ℕ) (entry : ℕ → Entry) → Counts (λ k. (c : ℕ) × (x : Bool) × (entry k ≡ present c x)) n (entries n entry)
-unfolding entries one
+unfolding entries weight
 entries-counted zero entry = counts-zero
 entries-counted (suc n) entry = go (entry n) refl (entries-counted n entry)
   where
     go : (y : Entry) → entry n ≡ y → Counts (λ k. (c : ℕ) × (x : Bool) × (entry k ≡ present c x)) n (entries n entry)
-        → Counts (λ k. (c : ℕ) × (x : Bool) × (entry k ≡ present c x)) (suc n) (entries n entry + one (entry n))
+        → Counts (λ k. (c : ℕ) × (x : Bool) × (entry k ≡ present c x)) (suc n) (entries n entry + weight (entry n))
     go absent e r =
         let z : entries n entry + 0 ≡ entries n entry = omega arith in
         rw (e, z) (counts-no {m = n} (λ h. absent-present (sym e ∙ h .2)) r)
@@ -43,7 +43,7 @@ short-entries {n} {past} ok i j =
 
 -- and a full one all n
 pub full-entries : (n : ℕ) (s : State) (i j : ℕ) → entries n (whole s i j) ≡ n
-unfolding entries one whole
+unfolding entries weight whole
 full-entries zero s i j = refl
 full-entries (suc n) s i j = let h = full-entries n s i j in omega arith
 

@@ -30,6 +30,7 @@ answers n state (mark i ∷ past) = answers n state past ++ (answer n i (state p
 answers n state (send i j m ∷ past) = answers n state past
 answers n state (receipt j m ∷ past) = answers n state past
 
+-- the nodes ascend, so none stands there twice
 pub data Ascending : List (ℕ × ℕ) → Type 0 where
   ascending-nil : Ascending []
   ascending-cons : {k c : ℕ} {rest : List (ℕ × ℕ)} → ((l d : ℕ) → List·Memᴰ (l, d) rest → k < l) → Ascending rest → Ascending ((k, c) ∷ rest)
@@ -44,15 +45,17 @@ pub record Right (es : List Event) (p : ℕ) (a : Answer) : Type 0 where
 
 -- ---- totals
 
-unfoldable pub one : Entry → ℕ
-one absent = 0
-one (present c x) = 1
+-- an entry counts one if it is there
+unfoldable pub weight : Entry → ℕ
+weight absent = 0
+weight (present c x) = 1
 
 -- how many of a message's first n entries it carries
 unfoldable pub entries : ℕ → (ℕ → Entry) → ℕ
 entries zero entry = 0
-entries (suc k) entry = entries k entry + one (entry k)
+entries (suc k) entry = entries k entry + weight (entry k)
 
+-- how many events, marks and sends a cut has, and how many entries its messages carry
 pub record Totals : Type 0 where
   pub events : ℕ
   pub marks : ℕ

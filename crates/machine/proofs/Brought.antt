@@ -3,7 +3,7 @@
 -- Assumes nothing.
 use mathlib.Core.Path.{_≡_, refl, sym, _∙_}
 use mathlib.Core.Logic.{_⊎_, inl, inr, _≢_, ⊎-elim, _↔_}
-use mathlib.Core.Bool.{Bool, true, false}
+use mathlib.Core.Bool.{Bool, true, false, false≢true, and-eq-true-iff}
 use mathlib.Core.List.{List, [], _∷_}
 use Prim.Native.Nat.{ℕ, suc, _<_, _≤_, max}
 use native.Mathlib.Decide.{ℕ-discrete, decLt}
@@ -14,7 +14,7 @@ use Rattle.order.proofs.Places.{flying-unique}
 use Rattle.machine.specs.Machine.{put, Entry, absent, present, State, marked, takeCount, received, step}
 use Rattle.machine.specs.Short.{Knowledge, brief, short, Columns, note, learnColumns, columns}
 use Rattle.machine.specs.History.{Carries, Brought, brought-now, brought-once}
-use Rattle.machine.proofs.Small.{differ, false-true, absent-present, and-true, put-same, put-other, put-cases, put-inverse}
+use Rattle.machine.proofs.Small.{differ, absent-present, put-same, put-other, put-cases, put-inverse}
 use Rattle.machine.proofs.Honest.{Honest, rises}
 use Rattle.machine.proofs.Letters.{truthful}
 
@@ -89,7 +89,7 @@ module _ (past : List Event) where
       go : Dec (a ≡ i) → Dec (a ≡ k) → (put a Q held i k j ≡ true) ↔ Brought columns i j k (put a R (s .count) i k) (mark a ∷ past)
       go (yes x) (yes y) =
           rw (← x, ← y, put-same a Q held, put-same a (λ j. false) (held a), put-same a R (s .count), put-same a (suc (s .count a a)) (s .count a))
-          (λ h. false-true h, λ b. absurd (none b))
+          (λ h. absurd (false≢true h), λ b. absurd (none b))
       go (yes x) (no y) =
           rw (← x, put-same a Q held, put-other a (λ j. false) (held a) k y, put-same a R (s .count), put-other a (suc (s .count a a)) (s .count a) k y)
           (exact-quiet quiet (t a j k))
@@ -125,7 +125,7 @@ module _ (past : List Event) where
 
       noted-larger : s .count b k < d → (put o true (λ l. false) j ≡ true) ↔ Brought columns b j k d (receipt b m ∷ past)
       noted-larger l = (
-        put-inverse (λ z. z ≡ true) o true (λ l. false) j (λ q h. now q) (λ q h. false-true h),
+        put-inverse (λ z. z ≡ true) o true (λ l. false) j (λ q h. now q) (λ q h. absurd (false≢true h)),
         λ h. ⊎-elim (λ h. let z = brought-had h in absurd (omega arith)) (λ n. put-cases (λ z. z ≡ true) o true (λ l. false) j (λ q. refl) (λ q. absurd (q (n .0)))) (brought-then h),
       )
 
@@ -175,7 +175,7 @@ module _ (past : List Event) where
 -- a bit is set exactly if that node has brought that very count
 pub columns-exact : {n : ℕ} {es : List Event} → Sound n es → (i j k : ℕ) → (short columns es .held i k j ≡ true) ↔ Brought columns i j k (short columns es .state .count i k) es
 unfolding short step learnColumns
-columns-exact sound-nil i j k = (λ h. false-true h, λ b. absurd (brought-none b))
+columns-exact sound-nil i j k = (λ h. absurd (false≢true h), λ b. absurd (brought-none b))
 columns-exact {n} (sound-cons {e = e} {past = past} a h) i j k = go e a (columns-exact h) i j k
   where
     go : (e : Event) → Allowed n past e → Exact past (short columns past .state) (short columns past .held)
@@ -188,5 +188,5 @@ columns-exact {n} (sound-cons {e = e} {past = past} a h) i j k = go e a (columns
 -- so the columns are honest
 pub columns-honest : {n : ℕ} (es : List Event) → Sound n es → Honest columns es
 columns-honest es ok i j k h =
-    let y = and-true _ _ h in
+    let y = and-eq-true-iff _ _ .0 h in
     (y .0, brought-from (columns-exact ok i j k .0 (y .1)))

@@ -49,25 +49,37 @@ case n es marks carried all = record { nodes = n; cut = es; marks = marks; carri
 abbrev sum : ℕ → ℕ → ℕ → ℕ → Totals
 sum e m s c = record { events = e; marks = m; sends = s; carried = c }
 
--- node 0's mark is told to nodes 1 and 2, and then by 1 to 2, an equal count: 2 need not tell 1
-abbrev twiceTold : List Event
-twiceTold = send 2 1 4 ∷ receipt 2 3 ∷ send 1 2 3 ∷ receipt 2 2 ∷ receipt 1 1 ∷ send 0 2 2 ∷ send 0 1 1 ∷ mark 0 ∷ []
+abbrev twoMarks : Case
+twoMarks = case 1 (mark 0 ∷ mark 0 ∷ []) (shown 0 (1 ∷ []) [] ∷ shown 0 (2 ∷ []) ((0, 1) ∷ []) ∷ []) [] (sum 2 2 0 0)
 
--- node 0 tells node 1 of its first mark, and node 2 of its second, which 2 tells 1, a larger count: 1 has to tell 0
-abbrev outdated : List Event
-outdated = send 1 0 4 ∷ receipt 1 3 ∷ send 2 1 3 ∷ receipt 2 2 ∷ send 0 2 2 ∷ mark 0 ∷ receipt 1 1 ∷ send 0 1 1 ∷ mark 0 ∷ []
-
-abbrev pub cases : List Case
-cases =
-    case 1 [] [] [] (sum 0 0 0 0)
-    ∷ case 1 (mark 0 ∷ mark 0 ∷ []) (shown 0 (1 ∷ []) [] ∷ shown 0 (2 ∷ []) ((0, 1) ∷ []) ∷ []) [] (sum 2 2 0 0)
-    ∷ case 3 cutA
+abbrev logA : Case
+logA =
+    case 3 cutA
     (shown 0 (1 ∷ 0 ∷ 0 ∷ []) [] ∷ shown 1 (1 ∷ 1 ∷ 0 ∷ []) ((0, 1) ∷ []) ∷ shown 2 (1 ∷ 1 ∷ 1 ∷ []) ((1, 1) ∷ []) ∷ [])
     (1 ∷ 1 ∷ 2 ∷ []) (sum 9 3 3 4)
-    ∷ case 2 cutB
+
+abbrev logB : Case
+logB =
+    case 2 cutB
     (shown 0 (1 ∷ 0 ∷ []) [] ∷ shown 1 (1 ∷ 1 ∷ []) ((0, 1) ∷ []) ∷ shown 0 (2 ∷ 1 ∷ []) ((1, 1) ∷ []) ∷ [])
     (1 ∷ 0 ∷ 2 ∷ []) (sum 9 3 3 3)
-    ∷ []
+
+-- node 0's mark is told to nodes 1 and 2, and then by 1 to 2, an equal count: 2 need not tell 1
+abbrev twiceTold : Case
+twiceTold =
+    case 3 (send 2 1 4 ∷ receipt 2 3 ∷ send 1 2 3 ∷ receipt 2 2 ∷ receipt 1 1 ∷ send 0 2 2 ∷ send 0 1 1 ∷ mark 0 ∷ [])
+    (shown 0 (1 ∷ 0 ∷ 0 ∷ []) [] ∷ [])
+    (1 ∷ 1 ∷ 1 ∷ 0 ∷ []) (sum 8 1 4 3)
+
+-- node 0 tells node 1 of its first mark, and node 2 of its second, which 2 tells 1, a larger count: 1 has to tell 0
+abbrev outdated : Case
+outdated =
+    case 3 (send 1 0 4 ∷ receipt 1 3 ∷ send 2 1 3 ∷ receipt 2 2 ∷ send 0 2 2 ∷ mark 0 ∷ receipt 1 1 ∷ send 0 1 1 ∷ mark 0 ∷ [])
+    (shown 0 (1 ∷ 0 ∷ 0 ∷ []) [] ∷ shown 0 (2 ∷ 0 ∷ 0 ∷ []) ((0, 1) ∷ []) ∷ [])
+    (1 ∷ 1 ∷ 1 ∷ 1 ∷ []) (sum 9 2 4 4)
+
+abbrev pub cases : List Case
+cases = case 1 [] [] [] (sum 0 0 0 0) ∷ twoMarks ∷ logA ∷ logB ∷ twiceTold ∷ outdated ∷ []
 
 -- the same by a machine
 abbrev run : (List Event → State) → Case → Case

@@ -3,7 +3,7 @@
 -- Assumes nothing.
 use mathlib.Core.Path.{_≡_, refl, sym, _∙_}
 use mathlib.Core.Logic.{_⊎_, inl, inr, _≢_, ⊎-elim, _↔_}
-use mathlib.Core.Bool.{Bool, true, false, _&&_}
+use mathlib.Core.Bool.{Bool, true, false, _&&_, false≢true, and-eq-true-iff}
 use mathlib.Core.List.{List, _∷_}
 use Prim.Native.Nat.{ℕ, suc, _<_, _≤_, max}
 use native.Mathlib.Nat.{le-refl}
@@ -14,7 +14,7 @@ use Rattle.order.specs.Order.{Event, mark, At, at-head, at-tail, Before, Number
 use Rattle.order.proofs.Places.{at-bound, at-cases, at-down}
 use Rattle.order.proofs.Before.{before-forward, before-up, before-down}
 use Rattle.machine.specs.Machine.{put, meet}
-use Rattle.machine.proofs.Small.{false-true, and-true, put-same, put-other, Meets, larger, smaller, equal, meets}
+use Rattle.machine.proofs.Small.{put-same, put-other, Meets, larger, smaller, equal, meets}
 use Rattle.machine.proofs.Numbers.{marks, marks-same, marks-rise, numbered-up, numbered-cases, numbered-bound, numbered-exists, First}
 
 -- mark number r of k is before no mark of the set S
@@ -114,7 +114,7 @@ module _ {es : List Event} {S T : ℕ → Type 0} {c d : ℕ → ℕ} {f g : ℕ
 
   joined-equal : (k : ℕ) → c k ≡ d k → meet (c k) (f k) (d k) (g k) ≡ f k && g k → Joined k (c k)
   joined-equal k l e = (
-    λ h. let y = and-true (f k) (g k) (sym e ∙ h) in
+    λ h. let y = and-eq-true-iff (f k) (g k) .0 (sym e ∙ h) in
         let t = v .flags k .0 (y .0) in
         let u = rw (← l) at (w .flags k .0 (y .1) .1) in
         (t .0, λ p o m n a s b. ⊎-elim (λ s. t .1 p o m n a s b) (λ s. u p o m n a s b) s),
@@ -181,7 +181,7 @@ module _ {past : List Event} (i : ℕ) {S : ℕ → Type 0} {c : ℕ → ℕ} {f
       λ p r n l. inr (u .first k .1 p r (old n) l),
     ),
     (
-      λ e. false-true e,
+      λ e. absurd (false≢true e),
       λ t. let n = numbered-exists k past (c k) (t .0) (u .fits k) in
           absurd (t .1 (n .0) (length past) i (numbered-up (n .1)) at-head (inl refl) (succs (n .0) (u .first k .1 (n .0) (c k) (n .1) (le-refl _)))),
     ),

@@ -3,7 +3,7 @@
 -- Assumes nothing.
 use mathlib.Core.Path.{_≡_, refl, subst}
 use mathlib.Core.Logic.{_⊎_, inl, inr, _≢_, ⊎-elim}
-use mathlib.Core.Bool.{Bool, true, false}
+use mathlib.Core.Bool.{Bool, true, false, false≢true}
 use mathlib.Core.List.{List, [], _∷_}
 use Prim.Native.Nat.{ℕ, suc, _<_, _≤_, max}
 use native.Mathlib.Nat.{le-refl}
@@ -14,7 +14,7 @@ use Rattle.order.specs.Order.{Event, idle, mark, send, receipt, nodeOf, Flying,
 use Rattle.order.proofs.Places.{flying-bound, flying-cases}
 use Rattle.order.proofs.Before.{within-up, within-down}
 use Rattle.machine.specs.Machine.{put, present, Letter, State, start, marked, meet, takeCount, takeFlag, received, step, whole, full}
-use Rattle.machine.proofs.Small.{differ, false-true, put-same, put-other}
+use Rattle.machine.proofs.Small.{differ, put-same, put-other}
 use Rattle.machine.proofs.Known.{Known, known-bound, known-closed, known-at, known-up, known-down, within-known, known-within, known-before, before-known, sent-before, before-receipt}
 use Rattle.machine.proofs.Numbers.{marks, numbered-bound, numbered-exists}
 use Rattle.machine.proofs.Describes.{Describes, describes-same, describes-grown, describes-add, describes-join, describes-mark, New}
@@ -26,6 +26,7 @@ pub record Post (es : List Event) (a : ℕ) (l : Letter) : Type 0 where
   pub tells : l .entry ≡ (λ k. present (counts k) (flags k))
   pub right : Describes es (Within es a) counts flags
 
+-- each node's row describes what the node knows, and each letter in flight what was known where it was sent
 pub record Faithful (es : List Event) (s : State) : Type 0 where
   pub rows : (i : ℕ) → Describes es (Known es i) (s .count i) (s .flag i)
   pub posts : (m i j a : ℕ) → Flying m i j es a → Post es a (s .letter m)
@@ -174,7 +175,7 @@ faithful-start =
         closed = λ p q k b. known-closed i p q k b;
         fits = λ k. omega arith;
         first = λ k. (λ p r n s. let h = known-bound i p s in absurd (omega arith), λ p r n h. let l = numbered-bound n in absurd (omega arith));
-        flags = λ k. (λ h. false-true h, λ h. let z = h .0 in absurd (omega arith));
+        flags = λ k. (λ h. absurd (false≢true h), λ h. let z = h .0 in absurd (omega arith));
       };
       posts = λ m i j a f. let h = flying-bound f in absurd (omega arith);
     }

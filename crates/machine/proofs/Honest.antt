@@ -3,7 +3,8 @@
 -- Assumes nothing.
 use mathlib.Core.Path.{_≡_, refl, _∙_, ap}
 use mathlib.Core.Logic.{_⊎_, inl, inr, _≢_, ⊎-elim}
-use mathlib.Core.Bool.{Bool, true, false, _&&_}
+use mathlib.Core.Bool.{Bool, true, false, and-true}
+use mathlib.Mathlib.Data.Bool.Basic.{eq-false-of-not-eq-true}
 use mathlib.Core.List.{List, _∷_}
 use Prim.Native.Nat.{ℕ, suc, _≤_}
 use native.Mathlib.Nat.{le-refl}
@@ -52,16 +53,9 @@ record Owed (x : Entry) (h : ℕ) : Type 0 where
 owed-rises : {x : Entry} {h l : ℕ} → h ≤ l → Owed x h → Owed x l
 owed-rises r o = record { count = o .count; flag = o .flag; told = o .told; had = (let z = o .had in omega arith); light = o .light }
 
-and-right : (x y : Bool) → y ≡ true → x && y ≡ x
-and-right true y h = h
-and-right false y h = refl
-
+-- a flag is clear where the count is 0
 clear : {es : List Event} {t : State} → Faithful es t → (j k : ℕ) → t .count j k ≡ 0 → t .flag j k ≡ false
-clear {t = t} v j k h = go (t .flag j k) refl
-  where
-    go : (x : Bool) → t .flag j k ≡ x → t .flag j k ≡ false
-    go true e = let l = v .rows j .flags k .0 e .0 in absurd (omega arith)
-    go false e = e
+clear v j k h = eq-false-of-not-eq-true (λ e. let l = v .rows j .flags k .0 e .0 in omega arith)
 
 -- such an entry is idle
 owed-idle : {es : List Event} {t : State} → Faithful es t → (j m k : ℕ) → Owed (t .letter m .entry k) (t .count j k) → Idle t j m k
@@ -73,7 +67,7 @@ owed-idle {t = t} v j m k o = rw (o .told) (let h = o .had in omega arith, go (m
     go (larger l e) a = let h = o .had in absurd (omega arith)
     go (smaller l e) a = e
     go (equal l e) (inl a) = let z = clear v j k (l ∙ a) in e ∙ rw z
-    go (equal l e) (inr a) = e ∙ and-right (t .flag j k) (o .flag) a
+    go (equal l e) (inr a) = e ∙ rw a (and-true (t .flag j k))
 
 -- ---- by induction on the cut
 

@@ -3,7 +3,8 @@
 -- Assumes nothing.
 use mathlib.Core.Path.{_≡_, refl, sym, _∙_}
 use mathlib.Core.Logic.{_⊎_, inl, inr, ⊎-elim, _↔_}
-use mathlib.Core.Bool.{Bool, true, false, _&&_}
+use mathlib.Core.Bool.{Bool, true, false, _&&_, true≢false}
+use mathlib.Mathlib.Data.Bool.Basic.{eq-false-of-not-eq-true}
 use mathlib.Core.List.{List, _∷_, _++_}
 use Prim.Native.Nat.{ℕ}
 use lib.ListN.{length}
@@ -13,7 +14,7 @@ use Rattle.machine.specs.Machine.{present, full}
 use Rattle.machine.specs.Short.{brief, short, columns}
 use Rattle.machine.specs.History.{Brought, Due}
 use Rattle.machine.specs.Answer.{answers}
-use Rattle.machine.proofs.Small.{offer-present, offer-kept, true-false}
+use Rattle.machine.proofs.Small.{offer-present, offer-kept}
 use Rattle.machine.proofs.Agree.{Fair, fair-counts, fair-flags, fair-answers}
 use Rattle.machine.proofs.Honest.{honest-fair}
 use Rattle.machine.proofs.Letters.{flight-kept}
@@ -45,14 +46,10 @@ module _ {n : ℕ} {past : List Event} (ok : Sound n past) (i j k : ℕ) where
   -- an entry is not spared exactly if its flag is clear or its count was not brought
   spared : (c : ℕ) (x : Bool) → short columns past .state .count i k ≡ c → (x && bit ≡ false) ↔ ((x ≡ false) ⊎ ¬ Brought columns i j k c past)
   spared c false e = (λ h. inl refl, λ h. refl)
-  spared c true e = (λ h. inr (λ b. true-false (sym (brought .1 b) ∙ h)), ⊎-elim (λ h. true-false h) (λ h. clear bit (λ q. h (brought .0 q))))
+  spared c true e = (λ h. inr (λ b. true≢false (sym (brought .1 b) ∙ h)), ⊎-elim (λ h. absurd (true≢false h)) (λ h. eq-false-of-not-eq-true (λ q. h (brought .0 q))))
     where
       brought : (bit ≡ true) ↔ Brought columns i j k c past
       brought = rw e at (columns-exact ok i j k)
-
-      clear : (y : Bool) → (y ≡ true → ⊥) → y ≡ false
-      clear true h = absurd (h refl)
-      clear false h = refl
 
   -- what i's message to j after the cut carries is what is due
   pub carried-exactly : (c : ℕ) (x : Bool) → (brief (short columns past) i j k ≡ present c x) ↔ Due columns past i j k c x

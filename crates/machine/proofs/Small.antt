@@ -12,19 +12,9 @@ use Rattle.order.specs.Order.{Event, idle, mark, send, receipt}
 use Rattle.machine.specs.Machine.{put, Entry, absent, present, meet, takeCount}
 use Rattle.machine.specs.Short.{offer}
 
--- two constructors of Bool are not the same
-pub true-false : {A : Type 0} → true ≡ false → A
-true-false h = absurd (let z : _≡_ {A = ℕ} 0 1 = cc in omega arith)
-
-pub false-true : {A : Type 0} → false ≡ true → A
-false-true h = absurd (let z : _≡_ {A = ℕ} 0 1 = cc in omega arith)
-
+-- an entry that is not there is none that is
 pub absent-present : {A : Type 0} {c : ℕ} {x : Bool} → absent ≡ present c x → A
 absent-present h = absurd (let z : _≡_ {A = ℕ} 0 1 = cc in omega arith)
-
-pub and-true : (x y : Bool) → x && y ≡ true → (x ≡ true) × (y ≡ true)
-and-true true y h = (refl, h)
-and-true false y h = false-true h
 
 -- ---- events of different kinds
 
@@ -61,6 +51,7 @@ put-inverse {B = B} P i a f j = put-cases (λ b. P b → B) i a f j
 
 -- ---- two counts that meet
 
+-- which of the three cases `meet` is in
 pub data Meets (c : ℕ) (x : Bool) (d : ℕ) (y : Bool) : Type 0 where
   larger : c < d → meet c x d y ≡ y → Meets c x d y
   smaller : d < c → meet c x d y ≡ x → Meets c x d y

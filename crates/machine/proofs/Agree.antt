@@ -6,12 +6,11 @@ use mathlib.Core.Logic.{_⊎_, inl, inr}
 use mathlib.Core.Bool.{Bool}
 use mathlib.Core.List.{List, [], _∷_, _++_}
 use Prim.Native.Nat.{ℕ}
-use native.Mathlib.Decide.{ℕ-discrete}
 use Rattle.order.specs.Order.{Event, idle, mark, send, receipt}
 use Rattle.machine.specs.Machine.{put, Entry, absent, present, Letter, State, start, marked, takeCount, takeFlag, received, step, whole, full}
 use Rattle.machine.specs.Short.{Knowledge, brief, short}
 use Rattle.machine.specs.Answer.{Answer, answer, answers}
-use Rattle.machine.proofs.Small.{offer-cases, put-same, put-other}
+use Rattle.machine.proofs.Small.{offer-cases, put-both}
 
 -- ---- idle entries
 
@@ -49,21 +48,14 @@ module _ {s t : State} (g : Agrees s t) where
   agrees-send : (i j m : ℕ) (says : ℕ → ℕ → ℕ → Entry) → ((k : ℕ) → (says i j k ≡ absent) ⊎ (says i j k ≡ present (s .count i k) (s .flag i k)))
       → Agrees (step says (send i j m) s) (step (whole t) (send i j m) t)
   unfolding step whole
-  agrees-send i j m says h = record { counts = g .counts; flags = g .flags; letters = λ l k. letter l k (ℕ-discrete m l) }
-    where
-      L : Letter
-      L = record { from = i; entry = says i j }
-
-      M : Letter
-      M = record { from = i; entry = λ k. present (t .count i k) (t .flag i k) }
-
-      sent : (k : ℕ) → (says i j k ≡ absent) ⊎ (says i j k ≡ present (t .count i k) (t .flag i k))
-      sent k = rw (← g .counts, ← g .flags) (h k)
-
-      letter : (l k : ℕ) → Dec (m ≡ l)
-          → (put m L (s .letter) l .entry k ≡ absent) ⊎ (put m L (s .letter) l .entry k ≡ put m M (t .letter) l .entry k)
-      letter l k (yes e) = rw (← e, put-same m L (s .letter), put-same m M (t .letter)) (sent k)
-      letter l k (no e) = rw (put-other m L (s .letter) l e, put-other m M (t .letter) l e) (g .letters l k)
+  agrees-send i j m says h =
+      record {
+        counts = g .counts;
+        flags = g .flags;
+        letters = λ l k. put-both (λ (x y : Letter). (x .entry k ≡ absent) ⊎ (x .entry k ≡ y .entry k)) m
+            (record { from = i; entry = says i j }) (s .letter) (record { from = i; entry = whole t i j }) (t .letter) l
+            (λ e. rw (← g .counts, ← g .flags) (h k)) (λ e. g .letters l k);
+      }
 
   agrees-receipt : (j m : ℕ) → ((k : ℕ) → s .letter m .entry k ≡ absent → Idle t j m k) → Agrees (received j m s) (received j m t)
   unfolding received takeCount takeFlag

@@ -21,7 +21,7 @@ use Rattle.machine.specs.Answer.{Answer, answer, answers, Right}
 use Rattle.machine.proofs.Small.{differ, put-same}
 use Rattle.machine.proofs.Known.{Known, known-bound, known-before, before-known, within-known, known-within}
 use Rattle.machine.proofs.Numbers.{marks, numbered-new, numbered-up, numbered-down, numbered-exists, numbered-bound, counts-first}
-use Rattle.machine.proofs.Describes.{Describes}
+use Rattle.machine.proofs.Describes.{Describes, Top}
 use Rattle.machine.proofs.Full.{own, faithful}
 use Rattle.machine.proofs.Listed.{flagged-in, flagged-out, flagged-ascending, ascending-same}
 
@@ -46,13 +46,22 @@ module _ {n : ℕ} (past : List Event) (i : ℕ) (ok : Sound n past) (within : i
 
   -- the mark of k that the flag names is a direct predecessor
   flag-nearest : (k : ℕ) → s .flag i k ≡ true → (f : ℕ) × Numbered es k f (s .count i k) × Nearest es k f (length past)
-  flag-nearest k h =
-      let t = v .flags k .0 h in
-      let m = numbered-exists k past (s .count i k) (t .0) (v .fits k) in
-      let o = v .first k .1 (m .0) (s .count i k) (m .1) (le-refl _) in
-      let apart : (l g : ℕ) → At es g (mark l) → Before es (m .0) g → ¬ Before es g (length past) =
-      λ l g a b c. let w = preds g c in let z = known-bound i g w in t .1 (m .0) g l (m .1) (at-down z a) w (before-down z b) in
-      (m .0, numbered-up (m .1), (at-tail (m .1 .0), known-before (m .0) o, apart))
+  flag-nearest k h = (m .0, numbered-up (m .1), (at-tail (m .1 .0), known-before (m .0) o, apart))
+    where
+      t : (0 < s .count i k) × Top past (Known past i) k (s .count i k)
+      t = v .flags k .0 h
+
+      m : (p : ℕ) × Numbered past k p (s .count i k)
+      m = numbered-exists k past (s .count i k) (t .0) (v .fits k)
+
+      o : Known past i (m .0)
+      o = v .first k .1 (m .0) (s .count i k) (m .1) (le-refl _)
+
+      apart : (l g : ℕ) → At es g (mark l) → Before es (m .0) g → ¬ Before es g (length past)
+      apart l g a b c =
+          let w = preds g c in
+          let z = known-bound i g w in
+          t .1 (m .0) g l (m .1) (at-down z a) w (before-down z b)
 
   -- and every direct predecessor is named by its flag
   nearest-flag : (k f r : ℕ) → Numbered es k f r → Nearest es k f (length past) → (s .flag i k ≡ true) × (r ≡ s .count i k)

@@ -6,7 +6,7 @@ use mathlib.Core.Logic.{_⊎_, inl, inr, _≢_, ⊎-elim, _↔_}
 use mathlib.Core.Bool.{Bool, true, false, false≢true, and-eq-true-iff}
 use mathlib.Core.List.{List, [], _∷_}
 use Prim.Native.Nat.{ℕ, suc, _<_, _≤_, max}
-use native.Mathlib.Decide.{ℕ-discrete, decLt}
+use native.Mathlib.Decide.{decLt}
 use native.Mathlib.Omega.{arith}
 use borrow.Author.Tests.{lt-ltb, le-ltb}
 use Rattle.order.specs.Order.{Event, idle, mark, send, receipt, Flying, Sound, sound-nil, sound-cons, Allowed}
@@ -14,7 +14,7 @@ use Rattle.order.proofs.Places.{flying-unique}
 use Rattle.machine.specs.Machine.{put, Entry, absent, present, State, marked, takeCount, received, step}
 use Rattle.machine.specs.Short.{Knowledge, brief, short, Columns, note, learnColumns, columns}
 use Rattle.machine.specs.History.{Carries, Brought, brought-now, brought-once}
-use Rattle.machine.proofs.Small.{differ, absent-present, put-same, put-other, put-cases, put-inverse}
+use Rattle.machine.proofs.Small.{differ, absent-present, put-same, put-both, put-cases, put-inverse}
 use Rattle.machine.proofs.Honest.{Honest, rises}
 use Rattle.machine.proofs.Letters.{truthful}
 
@@ -72,28 +72,22 @@ module _ (past : List Event) where
 
   exact-mark : Exact past s held → (a : ℕ) → Exact (mark a ∷ past) (marked a s) (learnColumns (mark a) s held)
   unfolding marked learnColumns
-  exact-mark t a i j k = go (ℕ-discrete a i) (ℕ-discrete a k)
+  exact-mark t a i j k =
+      put-both (λ (q : ℕ → ℕ → Bool) (r : ℕ → ℕ). (q k j ≡ true) ↔ Brought columns i j k (r k) (mark a ∷ past)) a
+      (put a (λ j. false) (held a)) held (put a (suc (s .count a a)) (s .count a)) (s .count) i
+      (λ x. rw (← x) mine) (λ x. exact-quiet quiet (t i j k))
     where
-      R : ℕ → ℕ
-      R = put a (suc (s .count a a)) (s .count a)
-
-      Q : ℕ → ℕ → Bool
-      Q = put a (λ j. false) (held a)
-
       quiet : {i : ℕ} → (m : ℕ) → mark a ≢ receipt i m
       quiet m = differ (λ z. omega arith)
 
       none : ¬ Brought columns a j a (suc (s .count a a)) (mark a ∷ past)
       none b = let h = brought-had (brought-quiet quiet .1 b) in omega arith
 
-      go : Dec (a ≡ i) → Dec (a ≡ k) → (put a Q held i k j ≡ true) ↔ Brought columns i j k (put a R (s .count) i k) (mark a ∷ past)
-      go (yes x) (yes y) =
-          rw (← x, ← y, put-same a Q held, put-same a (λ j. false) (held a), put-same a R (s .count), put-same a (suc (s .count a a)) (s .count a))
-          (λ h. absurd (false≢true h), λ b. absurd (none b))
-      go (yes x) (no y) =
-          rw (← x, put-same a Q held, put-other a (λ j. false) (held a) k y, put-same a R (s .count), put-other a (suc (s .count a a)) (s .count a) k y)
-          (exact-quiet quiet (t a j k))
-      go (no x) y = rw (put-other a Q held i x, put-other a R (s .count) i x) (exact-quiet quiet (t i j k))
+      mine : (put a (λ j. false) (held a) k j ≡ true) ↔ Brought columns a j k (put a (suc (s .count a a)) (s .count a) k) (mark a ∷ past)
+      mine =
+          put-both (λ (q : ℕ → Bool) (c : ℕ). (q j ≡ true) ↔ Brought columns a j k c (mark a ∷ past)) a
+          (λ j. false) (held a) (suc (s .count a a)) (s .count a) k
+          (λ y. (λ h. absurd (false≢true h), λ b. absurd (none (rw (← y) at b)))) (λ y. exact-quiet quiet (t a j k))
 
   module _ (t : Exact past s held) (b m o p : ℕ) (f : Flying m o b past p) (j k : ℕ) where
     -- what b has been brought after the receipt: as before, or by this letter's sender
@@ -160,17 +154,12 @@ module _ (past : List Event) where
 
   exact-receipt : Exact past s held → (b m o p : ℕ) → Flying m o b past p → Exact (receipt b m ∷ past) (received b m s) (learnColumns (receipt b m) s held)
   unfolding received learnColumns
-  exact-receipt t b m o p f i j k = go (ℕ-discrete b i)
-    where
-      R : ℕ → ℕ
-      R k = takeCount (s .count b k) (s .letter m .entry k)
-
-      Q : ℕ → ℕ → Bool
-      Q k = note (s .letter m .from) (s .count b k) (s .letter m .entry k) (held b k)
-
-      go : Dec (b ≡ i) → (put b Q held i k j ≡ true) ↔ Brought columns i j k (put b R (s .count) i k) (receipt b m ∷ past)
-      go (yes q) = rw (← q, put-same b Q held, put-same b R (s .count), truthful columns past m o b p f .0) (noted t b m o p f j k (s .letter m .entry k) refl)
-      go (no q) = rw (put-other b Q held i q, put-other b R (s .count) i q) (exact-quiet (λ l h. q (cc)) (t i j k))
+  exact-receipt t b m o p f i j k =
+      put-both (λ (q : ℕ → ℕ → Bool) (r : ℕ → ℕ). (q k j ≡ true) ↔ Brought columns i j k (r k) (receipt b m ∷ past)) b
+      (λ k. note (s .letter m .from) (s .count b k) (s .letter m .entry k) (held b k)) held
+      (λ k. takeCount (s .count b k) (s .letter m .entry k)) (s .count) i
+      (λ q. rw (← q, truthful columns past m o b p f .0) (noted t b m o p f j k (s .letter m .entry k) refl))
+      (λ q. exact-quiet (λ l h. q (cc)) (t i j k))
 
 -- a bit is set exactly if that node has brought that very count
 pub columns-exact : {n : ℕ} {es : List Event} → Sound n es → (i j k : ℕ) → (short columns es .held i k j ≡ true) ↔ Brought columns i j k (short columns es .state .count i k) es

@@ -2,11 +2,13 @@
 -- messages of each carry; and two logs on which the rule's word "exactly as it now stands" decides.
 -- Assumes nothing.
 use mathlib.Core.Path.{_≡_, refl}
+use mathlib.Core.Bool.{true, false}
 use mathlib.Core.List.{List, [], _∷_, _++_, map}
 use Prim.Native.Nat.{ℕ, zero, suc}
+use lib.ListN.{drop}
 use Rattle.order.specs.Order.{Event, idle, mark, send, receipt}
 use Rattle.order.proofs.Samples.{cutA, cutB}
-use Rattle.machine.specs.Machine.{put, State, start, marked, meet, takeCount, takeFlag, received, step, whole, full}
+use Rattle.machine.specs.Machine.{put, absent, present, State, start, marked, meet, takeCount, takeFlag, received, step, whole, full}
 use Rattle.machine.specs.Short.{offer, brief, short, note, learnColumns, columns}
 use Rattle.machine.specs.Answer.{Answer, flagged, answer, answers, weight, entries, Totals, more, totals}
 
@@ -29,7 +31,7 @@ pub record Shown : Type 0 where
   pub stamp : List ℕ
   pub nearest : List (ℕ × ℕ)
 
-abbrev show : ℕ → Answer → Shown
+abbrev pub show : ℕ → Answer → Shown
 show n a = record { node = a .node; stamp = firsts n (a .stamp); nearest = a .nearest }
 
 abbrev shown : ℕ → List ℕ → List (ℕ × ℕ) → Shown
@@ -90,3 +92,9 @@ run state r =
 pub cases-hold : (map (run full) cases ≡ cases) × (map (run (λ es. short columns es .state)) cases ≡ cases)
 unfolding firsts loads answers answer flagged weight entries more totals full whole step start marked received meet takeCount takeFlag put short brief offer note learnColumns
 cases-hold = (refl, refl)
+
+-- A's third message: 0's count with its flag clear, 1's count, and nothing of 2
+pub third-of-A : (brief (short columns (drop 4 cutA)) 1 2 0 ≡ present 1 false) × (brief (short columns (drop 4 cutA)) 1 2 1 ≡ present 1 true)
+    × (brief (short columns (drop 4 cutA)) 1 2 2 ≡ absent)
+unfolding step start marked received meet takeCount takeFlag put short brief offer note learnColumns
+third-of-A = (refl, refl, refl)

@@ -7,14 +7,14 @@ use mathlib.Core.Bool.{Bool, true, false, _&&_, false≢true, and-eq-true-iff}
 use mathlib.Core.List.{List, _∷_}
 use Prim.Native.Nat.{ℕ, suc, _<_, _≤_, max}
 use native.Mathlib.Nat.{le-refl}
-use native.Mathlib.Decide.{ℕ-discrete, decLe}
+use native.Mathlib.Decide.{decLe}
 use native.Mathlib.Omega.{arith}
 use lib.ListN.{length}
 use Rattle.order.specs.Order.{Event, mark, At, at-head, at-tail, Before, Numbered}
 use Rattle.order.proofs.Places.{at-bound, at-cases, at-down}
 use Rattle.order.proofs.Before.{before-forward, before-up, before-down}
 use Rattle.machine.specs.Machine.{put, meet}
-use Rattle.machine.proofs.Small.{put-same, put-other, Meets, larger, smaller, equal, meets}
+use Rattle.machine.proofs.Small.{put-both, Meets, larger, smaller, equal, meets}
 use Rattle.machine.proofs.Numbers.{marks, marks-same, marks-rise, numbered-up, numbered-cases, numbered-bound, numbered-exists, First}
 
 -- mark number r of k is before no mark of the set S
@@ -190,16 +190,15 @@ module _ {past : List Event} (i : ℕ) {S : ℕ → Type 0} {c : ℕ → ℕ} {f
       old : {p r : ℕ} → Numbered (mark i ∷ past) k p r → Numbered past k p r
       old n = ⊎-elim (λ e. absurd (h (let q = e .0 in cc))) (λ o. o) (numbered-cases n)
 
-  fit : (k : ℕ) → Dec (i ≡ k) → Fit k (put i (suc (c i)) c k) (put i true (λ k. false) k)
-  fit k (yes h) = rw (← h, put-same i (suc (c i)) c, put-same i true (λ k. false)) fit-own
-  fit k (no h) = rw (put-other i (suc (c i)) c k h, put-other i true (λ k. false) k h) (fit-other k h)
+  fit : (k : ℕ) → Fit k (put i (suc (c i)) c k) (put i true (λ k. false) k)
+  fit k = put-both (Fit k) i (suc (c i)) c true (λ k. false) k (λ h. rw (← h) fit-own) (fit-other k)
 
   pub describes-mark : Describes (mark i ∷ past) (New past S) (put i (suc (c i)) c) (put i true (λ k. false))
   describes-mark =
       record {
         bound = λ p. ⊎-elim (λ h. omega arith) (λ s. let h = u .bound p s in omega arith);
         closed = λ p q s b. inr (⊎-elim (λ h. preds q (rw h at b)) (λ s. u .closed p q s (before-down (u .bound p s) b)) s);
-        fits = λ k. fit k (ℕ-discrete i k) .0;
-        first = λ k. fit k (ℕ-discrete i k) .1;
-        flags = λ k. fit k (ℕ-discrete i k) .2;
+        fits = λ k. fit k .0;
+        first = λ k. fit k .1;
+        flags = λ k. fit k .2;
       }

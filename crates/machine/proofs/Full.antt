@@ -11,10 +11,11 @@ use native.Mathlib.Decide.{ℕ-discrete, decLe}
 use native.Mathlib.Omega.{arith}
 use lib.ListN.{length}
 use Rattle.order.specs.Order.{Event, idle, mark, send, receipt, nodeOf, Flying, Before, Within, Sound, sound-nil, sound-cons, Allowed}
-use Rattle.order.proofs.Places.{flying-bound, flying-cases}
+use Rattle.order.proofs.Places.{flying-bound, flying-down}
 use Rattle.order.proofs.Before.{within-up, within-down}
 use Rattle.machine.specs.Machine.{put, present, Letter, State, start, marked, meet, takeCount, takeFlag, received, step, whole, full}
-use Rattle.machine.proofs.Small.{differ, put-same, put-other}
+use Rattle.machine.proofs.Small.{differ, put-both}
+use Rattle.machine.proofs.Flights.{flights-sent}
 use Rattle.machine.proofs.Known.{Known, known-bound, known-closed, known-at, known-up, known-down, within-known, known-within, known-before, before-known, sent-before, before-receipt}
 use Rattle.machine.proofs.Numbers.{marks, numbered-bound, numbered-exists}
 use Rattle.machine.proofs.Describes.{Describes, describes-same, describes-grown, describes-add, describes-join, describes-mark, New}
@@ -72,16 +73,12 @@ module _ {x : Event} {past : List Event} where
 
   -- the letters where the event sends nothing
   posts-grown : {s : State} → Faithful past s → ((i j m : ℕ) → x ≢ send i j m) → (m i j a : ℕ) → Flying m i j (x ∷ past) a → Post (x ∷ past) a (s .letter m)
-  posts-grown t silent m i j a f =
-      ⊎-elim (λ c. absurd (silent i j m (c .0))) (λ c. post-grown a (flying-bound (c .1)) (t .posts m i j a (c .1))) (flying-cases f)
+  posts-grown t silent m i j a f = let h = flying-down silent f in post-grown a (flying-bound h) (t .posts m i j a h)
 
 -- one row is put in, and the others stay
 row-put : (es : List Event) (i j : ℕ) {c : ℕ → ℕ} {f : ℕ → Bool} (C : ℕ → ℕ → ℕ) (F : ℕ → ℕ → Bool)
-    → Describes es (Known es i) c f → (i ≢ j → Describes es (Known es j) (C j) (F j))
-    → Dec (i ≡ j) → Describes es (Known es j) (put i c C j) (put i f F j)
-row-put es i j {c} {f} C F v w (yes e) =
-    subst (λ (y : ℕ). Describes es (Known es y) (put i c C y) (put i f F y)) e (rw (put-same i c C, put-same i f F) v)
-row-put es i j {c} {f} C F v w (no e) = rw (put-other i c C j e, put-other i f F j e) (w e)
+    → Describes es (Known es i) c f → (i ≢ j → Describes es (Known es j) (C j) (F j)) → Describes es (Known es j) (put i c C j) (put i f F j)
+row-put es i j {c} {f} C F v = put-both (Describes es (Known es j)) i c C f F j (λ e. rw (← e) v)
 
 module _ {past : List Event} {s : State} (t : Faithful past s) where
   -- an event that leaves its node's row as it is
@@ -102,7 +99,7 @@ module _ {past : List Event} {s : State} (t : Faithful past s) where
   unfolding marked
   faithful-mark i =
       record {
-        rows = λ j. row-put (mark i ∷ past) i j (s .count) (s .flag) new (λ e. row-grown j e (t .rows j)) (ℕ-discrete i j);
+        rows = λ j. row-put (mark i ∷ past) i j (s .count) (s .flag) new (λ e. row-grown j e (t .rows j));
         posts = posts-grown t (λ a b m. differ (λ z. omega arith));
       }
     where
@@ -117,7 +114,8 @@ module _ {past : List Event} {s : State} (t : Faithful past s) where
   faithful-send i j m =
       record {
         rows = row;
-        posts = λ l a b q f. post l a b q (flying-cases f) (ℕ-discrete m l);
+        posts = flights-sent (λ l a b q x y. Post (send i j m ∷ past) q x) i j m letter (s .letter) letter (s .letter) sent
+            (λ l a b q f. post-grown q (flying-bound f) (t .posts l a b q f));
       }
     where
       row : (k : ℕ) → Describes (send i j m ∷ past) (Known (send i j m ∷ past) k) (s .count k) (s .flag k)
@@ -135,18 +133,11 @@ module _ {past : List Event} {s : State} (t : Faithful past s) where
             right = describes-same (λ p k. known-within i p refl k) (λ p w. within-known i p refl w) (row i);
           }
 
-      post : (l a b q : ℕ) → ((send i j m ≡ send a b l) × (q ≡ length past)) ⊎ ((¬ (m ≡ l)) × Flying l a b past q) → Dec (m ≡ l)
-          → Post (send i j m ∷ past) q (put m letter (s .letter) l)
-      post l a b q (inl c) (yes e) = rw (← e, c .1, put-same m letter (s .letter)) sent
-      post l a b q (inl c) (no e) = absurd (e (let h = c .0 in cc))
-      post l a b q (inr c) (yes e) = absurd (c .0 e)
-      post l a b q (inr c) (no e) = rw (put-other m letter (s .letter) l e) (post-grown q (flying-bound (c .1)) (t .posts l a b q (c .1)))
-
   faithful-receipt : (j m i a : ℕ) → Flying m i j past a → Faithful (receipt j m ∷ past) (received j m s)
   unfolding received takeCount takeFlag
   faithful-receipt j m i a f =
       record {
-        rows = λ k. row-put (receipt j m ∷ past) j k (s .count) (s .flag) new (λ e. row-grown k e (t .rows k)) (ℕ-discrete j k);
+        rows = λ k. row-put (receipt j m ∷ past) j k (s .count) (s .flag) new (λ e. row-grown k e (t .rows k));
         posts = posts-grown t (λ a b m. differ (λ z. omega arith));
       }
     where

@@ -2,20 +2,19 @@
 -- so the entry is idle when it arrives, whenever that is, for counts only rise.
 -- Assumes nothing.
 use mathlib.Core.Path.{_≡_, refl, _∙_, ap}
-use mathlib.Core.Logic.{_⊎_, inl, inr, _≢_, ⊎-elim}
+use mathlib.Core.Logic.{_⊎_, inl, inr, _≢_}
 use mathlib.Core.Bool.{Bool, true, false, and-true}
 use mathlib.Mathlib.Data.Bool.Basic.{eq-false-of-not-eq-true}
 use mathlib.Core.List.{List, _∷_}
 use Prim.Native.Nat.{ℕ, suc, _≤_}
 use native.Mathlib.Nat.{le-refl}
-use native.Mathlib.Decide.{ℕ-discrete}
 use native.Mathlib.Omega.{arith}
-use lib.ListN.{length}
 use Rattle.order.specs.Order.{Event, idle, mark, send, receipt, Flying, Sound, sound-nil, sound-cons, Allowed}
-use Rattle.order.proofs.Places.{flying-bound, flying-cases}
-use Rattle.machine.specs.Machine.{put, Entry, absent, present, Letter, State, marked, meet, takeCount, takeFlag, received, step, whole, full}
-use Rattle.machine.specs.Short.{Knowledge, offer, Short, brief, short}
-use Rattle.machine.proofs.Small.{offer-absent, kind, differ, put-same, put-other, put-cases, Meets, larger, smaller, equal, meets, take-rises}
+use Rattle.order.proofs.Places.{flying-bound, flying-down}
+use Rattle.machine.specs.Machine.{put, Entry, absent, present, State, marked, meet, takeCount, takeFlag, received, step, whole, full}
+use Rattle.machine.specs.Short.{Knowledge, Short, brief, short}
+use Rattle.machine.proofs.Small.{offer-absent, kind, differ, put-cases, Meets, larger, smaller, equal, meets, take-rises}
+use Rattle.machine.proofs.Flights.{flights-sent}
 use Rattle.machine.proofs.Full.{Faithful, faithful}
 use Rattle.machine.proofs.Agree.{Idle, Harmless, Fair, fair-nil, fair-cons, Agrees, agree}
 
@@ -86,36 +85,22 @@ module _ (K : Knowledge) where
     -- an event that sends nothing
     owing-kept : (e : Event) → ((i j m : ℕ) → e ≢ send i j m) → (m i j a : ℕ) → Flying m i j (e ∷ past) a
         → (k : ℕ) → s .state .letter m .entry k ≡ absent → Owed (t .letter m .entry k) (step (whole t) e t .count j k)
-    owing-kept e silent m i j a f k h =
-        ⊎-elim (λ c. absurd (silent i j m (c .0))) (λ c. owed-rises (rises (whole t) e t j k) (w m i j a (c .1) k h)) (flying-cases f)
+    owing-kept e silent m i j a f k h = owed-rises (rises (whole t) e t j k) (w m i j a (flying-down silent f) k h)
 
     owing-send : Honest K past → (i j m : ℕ) → Owing (send i j m ∷ past)
     unfolding short full step brief whole
-    owing-send honest i j m l a b p f k h = go (flying-cases f) (ℕ-discrete m l) h
+    owing-send honest i j m =
+        flights-sent (λ l a b p x y. (k : ℕ) → x .entry k ≡ absent → Owed (y .entry k) (t .count b k)) i j m
+        (record { from = i; entry = brief s i j }) (s .state .letter) (record { from = i; entry = whole t i j }) (t .letter)
+        (λ k h. sent k (offer-absent _ _ _ h)) w
       where
-        L : Letter
-        L = record { from = i; entry = λ k. offer (s .state .count i k) (s .state .flag i k) (K .spares (s .state) (s .held) i j k) }
-
-        M : Letter
-        M = record { from = i; entry = λ k. present (t .count i k) (t .flag i k) }
-
-        sent : (s .state .count i k ≡ 0) ⊎ (K .spares (s .state) (s .held) i j k ≡ true) → Owed (present (t .count i k) (t .flag i k)) (t .count j k)
-        sent (inl z) =
+        sent : (k : ℕ) → (s .state .count i k ≡ 0) ⊎ (K .spares (s .state) (s .held) i j k ≡ true) → Owed (present (t .count i k) (t .flag i k)) (t .count j k)
+        sent k (inl z) =
             let z = rw (g .counts) at z in
             record { count = t .count i k; flag = t .flag i k; told = refl; had = omega arith; light = inl z }
-        sent (inr q) =
+        sent k (inr q) =
             let o = rw (g .counts, g .flags) at (honest i j k q) in
             record { count = t .count i k; flag = t .flag i k; told = refl; had = o .1; light = inr (o .0) }
-
-        go : ((send i j m ≡ send a b l) × (p ≡ length past)) ⊎ ((¬ (m ≡ l)) × Flying l a b past p) → Dec (m ≡ l)
-            → put m L (s .state .letter) l .entry k ≡ absent → Owed (put m M (t .letter) l .entry k) (t .count b k)
-        go (inl c) (yes e) h =
-            let q = c .0 in let z : j ≡ b = cc in
-            let h = rw (← e, put-same m L (s .state .letter)) at h in
-            rw (← e, ← z, put-same m M (t .letter)) (sent (offer-absent _ _ _ h))
-        go (inl c) (no e) h = absurd (e (let q = c .0 in cc))
-        go (inr c) (yes e) h = absurd (c .0 e)
-        go (inr c) (no e) h = rw (put-other m M (t .letter) l e) (w l a b p (c .1) k (rw (put-other m L (s .state .letter) l e) at h))
 
   harmless-other : (past : List Event) (e : Event) → kind e ≢ 3 → Harmless K past e
   harmless-other past e h j m q = absurd (h (ap kind q))

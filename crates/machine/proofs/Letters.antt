@@ -2,18 +2,18 @@
 -- on the cut, whatever the knowledge.
 -- Assumes nothing.
 use mathlib.Core.Path.{_≡_, refl, _∙_}
-use mathlib.Core.Logic.{_⊎_, inl, inr, _≢_, ⊎-elim}
+use mathlib.Core.Logic.{_≢_, ⊎-elim}
 use mathlib.Core.Bool.{Bool}
 use mathlib.Core.List.{List, [], _∷_, _++_}
 use Prim.Native.Nat.{ℕ, _≤_}
-use native.Mathlib.Decide.{ℕ-discrete}
 use native.Mathlib.Omega.{arith}
 use lib.ListN.{length, length-append}
 use Rattle.order.specs.Order.{Event, idle, mark, send, receipt, Names, Flying}
-use Rattle.order.proofs.Places.{flying-bound, flying-cases}
-use Rattle.machine.specs.Machine.{put, Entry, present, Letter, State, marked, received, step}
+use Rattle.order.proofs.Places.{flying-bound, flying-cases, flying-down}
+use Rattle.machine.specs.Machine.{Entry, present, Letter, State, marked, received, step}
 use Rattle.machine.specs.Short.{Knowledge, Short, brief, short}
 use Rattle.machine.proofs.Small.{offer-present, differ, put-same, put-other}
+use Rattle.machine.proofs.Flights.{flights-sent}
 use Rattle.machine.proofs.Honest.{rises}
 
 -- a letter names its sender, and no count that the sender does not have
@@ -25,24 +25,15 @@ module _ {past : List Event} (s : State) (t : Truthful past s) where
   truthful-kept : (says : ℕ → ℕ → ℕ → Entry) (e : Event) → ((i j m : ℕ) → e ≢ send i j m) → (m i j a : ℕ) → Flying m i j (e ∷ past) a
       → (s .letter m .from ≡ i) × ((k d : ℕ) (y : Bool) → s .letter m .entry k ≡ present d y → d ≤ step says e s .count i k)
   truthful-kept says e silent m i j a f =
-      ⊎-elim (λ c. absurd (silent i j m (c .0)))
-      (λ c. let l = t m i j a (c .1) in (l .0, λ k d y h. omega (arith, l .1 k d y h, rises says e s i k)))
-      (flying-cases f)
+      let l = t m i j a (flying-down silent f) in
+      (l .0, λ k d y h. omega (arith, l .1 k d y h, rises says e s i k))
 
   truthful-send : (says : ℕ → ℕ → ℕ → Entry) (i j m : ℕ) → ((k d : ℕ) (y : Bool) → says i j k ≡ present d y → d ≤ s .count i k)
       → Truthful (send i j m ∷ past) (step says (send i j m) s)
   unfolding step
-  truthful-send says i j m h l a b p f = go (flying-cases f) (ℕ-discrete m l)
-    where
-      L : Letter
-      L = record { from = i; entry = says i j }
-
-      go : ((send i j m ≡ send a b l) × (p ≡ length past)) ⊎ ((¬ (m ≡ l)) × Flying l a b past p) → Dec (m ≡ l)
-          → (put m L (s .letter) l .from ≡ a) × ((k d : ℕ) (y : Bool) → put m L (s .letter) l .entry k ≡ present d y → d ≤ s .count a k)
-      go (inl c) (yes e) = let q = c .0 in let z : i ≡ a = cc in rw (← e, ← z, put-same m L (s .letter)) (refl, h)
-      go (inl c) (no e) = absurd (e (let q = c .0 in cc))
-      go (inr c) (yes e) = absurd (c .0 e)
-      go (inr c) (no e) = rw (put-other m L (s .letter) l e) (t l a b p (c .1))
+  truthful-send says i j m h =
+      flights-sent (λ l a b p x y. (x .from ≡ a) × ((k d : ℕ) (y : Bool) → x .entry k ≡ present d y → d ≤ s .count a k)) i j m
+      (record { from = i; entry = says i j }) (s .letter) (record { from = i; entry = says i j }) (s .letter) (refl, h) t
 
 pub truthful : (K : Knowledge) (es : List Event) → Truthful es (short K es .state)
 unfolding short step brief marked received

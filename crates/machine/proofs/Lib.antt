@@ -1,4 +1,5 @@
 pub mod Small
+pub mod Flights
 pub mod Known
 pub mod Numbers
 pub mod Describes

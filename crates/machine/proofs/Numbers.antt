@@ -15,6 +15,7 @@ use Rattle.order.specs.Order.{Event, idle, mark, send, receipt, At, at-head, at
 use Rattle.order.proofs.Places.{at-bound, at-cases, at-down}
 use Rattle.order.proofs.Counts.{counts-unique, counts-same, counts-grow, counts-rise}
 use Rattle.order.proofs.Growing.{numbered-grown}
+use Rattle.machine.proofs.Small.{differ}
 
 -- how many marks of k the cut has
 unfoldable pub marks : ℕ → List Event → ℕ
@@ -36,14 +37,14 @@ marks-other k (send i j m) past h = refl
 marks-other k (receipt j m) past h = refl
 
 pub dec-mark : (k : ℕ) (e : Event) → Dec (e ≡ mark k)
-dec-mark k (idle i) = no (λ h. let z : _≡_ {A = ℕ} 0 1 = cc in omega arith)
+dec-mark k (idle i) = no (differ (λ z. omega arith))
 dec-mark k (mark i) = go (ℕ-discrete i k)
   where
     go : Dec (i ≡ k) → Dec (mark i ≡ mark k)
     go (yes e) = yes (ap mark e)
     go (no e) = no (λ h. e (cc))
-dec-mark k (send i j m) = no (λ h. let z : _≡_ {A = ℕ} 0 1 = cc in omega arith)
-dec-mark k (receipt j m) = no (λ h. let z : _≡_ {A = ℕ} 0 1 = cc in omega arith)
+dec-mark k (send i j m) = no (differ (λ z. omega arith))
+dec-mark k (receipt j m) = no (differ (λ z. omega arith))
 
 pub marks-rise : (k : ℕ) (e : Event) (past : List Event) → marks k past ≤ marks k (e ∷ past)
 marks-rise k e past = go (dec-mark k e)

@@ -6,12 +6,11 @@ use mathlib.Core.Logic.{_⊎_, inl, inr, ⊎-elim, _↔_}
 use mathlib.Core.Bool.{Bool}
 use mathlib.Core.List.{List, _∷_}
 use Prim.Native.Nat.{ℕ}
-use native.Mathlib.Decide.{ℕ-discrete}
 use Rattle.order.specs.Order.{Event, idle, mark, send, receipt, Sound, sound-nil, sound-cons, Flying}
-use Rattle.machine.specs.Machine.{put, Entry, absent, present, Letter, marked, received, step}
+use Rattle.machine.specs.Machine.{Entry, absent, present, Letter, marked, received, step}
 use Rattle.machine.specs.Short.{Knowledge, brief, short, columns}
 use Rattle.machine.specs.History.{Carries, Brought, brought-now, brought-once, Due}
-use Rattle.machine.proofs.Small.{put-same, put-other}
+use Rattle.machine.proofs.Small.{put-both}
 use Rattle.machine.proofs.Brought.{brought-none, brought-cases}
 use Rattle.machine.proofs.ShortMessages.{carried-exactly}
 
@@ -65,17 +64,10 @@ module _ {n : ℕ} (K L : Knowledge) (o : Obeys n K) (q : Obeys n L) where
       letters : (e : Event) → Alike K L past → ((i j k : ℕ) → brief (short K past) i j k ≡ brief (short L past) i j k) → Alike K L (e ∷ past)
       letters (idle i) r s m k = r m k
       letters (mark i) r s m k = r m k
-      letters (send i j l) r s m k = go (ℕ-discrete l m)
-        where
-          A : Letter
-          A = record { from = i; entry = brief (short K past) i j }
-
-          B : Letter
-          B = record { from = i; entry = brief (short L past) i j }
-
-          go : Dec (l ≡ m) → put l A (short K past .state .letter) m .entry k ≡ put l B (short L past .state .letter) m .entry k
-          go (yes e) = rw (← e, put-same l A (short K past .state .letter), put-same l B (short L past .state .letter)) (s i j k)
-          go (no e) = rw (put-other l A (short K past .state .letter) m e, put-other l B (short L past .state .letter) m e) (r m k)
+      letters (send i j l) r s m k =
+          put-both (λ (x y : Letter). x .entry k ≡ y .entry k) l
+          (record { from = i; entry = brief (short K past) i j }) (short K past .state .letter)
+          (record { from = i; entry = brief (short L past) i j }) (short L past .state .letter) m (λ e. s i j k) (λ e. r m k)
       letters (receipt j l) r s m k = r m k
 
   -- what the sentence says is sent in one way only

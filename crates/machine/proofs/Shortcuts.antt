@@ -1,9 +1,9 @@
--- 01's shortcuts that give wrong arrows, each built and run: on log A or B it gives another answer than the machines do.
--- Computed.
+-- 01's shortcuts that give wrong arrows, each built and run: where it leads to another answer or another state than the
+-- machines', on log A, on B, or on B and three events more. Computed.
 -- Assumes nothing.
 use mathlib.Core.Path.{_≡_, refl}
 use mathlib.Core.Bool.{Bool, true, false, cond, _&&_, _||_}
-use mathlib.Core.List.{List, [], _∷_, _++_}
+use mathlib.Core.List.{List, [], _∷_, _++_, map}
 use Prim.Native.Nat.{ℕ, zero, suc}
 use lib.Dec.{eqb, ltb}
 use lib.ListN.{drop}
@@ -12,7 +12,8 @@ use Rattle.order.specs.Flight.{Message, without, inFlight}
 use Rattle.order.proofs.Samples.{cutA, cutB}
 use Rattle.machine.specs.Machine.{put, Entry, absent, present, State, start, marked, meet, takeCount, takeFlag, received, step, whole, full}
 use Rattle.machine.specs.Short.{Knowledge, offer, brief, short, Columns, note, learnColumns, columns}
-use Rattle.machine.specs.Answer.{flagged}
+use Rattle.machine.specs.Answer.{flagged, answer, answers, weight, entries, more, totals}
+use Rattle.machine.proofs.Cases.{firsts, show}
 
 -- the numbered pairs of a row
 unfoldable pub pairs : ℕ → (ℕ → ℕ) → List (ℕ × ℕ)
@@ -129,3 +130,13 @@ overtaken-in-B = (refl, refl)
 pub stale-on-B : (short stale cutB .held 0 0 1 ≡ true) × (short columns cutB .held 0 0 1 ≡ false)
 unfolding step start marked received meet takeCount takeFlag put short brief offer note learnColumns noteOld learnOld
 stale-on-B = (refl, refl)
+
+-- and no stamp, no arrow and no carried entry of A or B shows it; nor do their stamps and arrows show who relies on order
+pub unseen : (map (show 3) (answers 3 (λ es. short stale es .state) cutA) ≡ map (show 3) (answers 3 full cutA))
+    × (map (show 2) (answers 2 (λ es. short stale es .state) cutB) ≡ map (show 2) (answers 2 full cutB))
+    × (totals 3 (λ past. brief (short stale past)) cutA ≡ totals 3 (λ past. brief (short columns past)) cutA)
+    × (totals 2 (λ past. brief (short stale past)) cutB ≡ totals 2 (λ past. brief (short columns past)) cutB)
+    × (map (show 3) (answers 3 lastWins cutA) ≡ map (show 3) (answers 3 full cutA))
+    × (map (show 2) (answers 2 lastWins cutB) ≡ map (show 2) (answers 2 full cutB))
+unfolding answers answer flagged firsts totals more weight entries lastWins full whole step start marked received meet takeCount takeFlag put short brief offer note learnColumns noteOld learnOld
+unseen = (refl, refl, refl, refl, refl, refl)

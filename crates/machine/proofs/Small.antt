@@ -37,13 +37,18 @@ pub put-other : {A : Type 0} (i : ℕ) (a : A) (f : ℕ → A) (j : ℕ) → i �
 unfolding put
 put-other i a f j h = rw (ne-eqb i j h)
 
--- what holds of the value put in and of the other values
-pub put-cases : {A : Type 0} (P : A → Type 0) (i : ℕ) (a : A) (f : ℕ → A) (j : ℕ) → (i ≡ j → P a) → (i ≢ j → P (f j)) → P (put i a f j)
-put-cases P i a f j same other = go (ℕ-discrete i j)
+-- of two functions with values put in at one place: what holds of the values put in, and of the other values
+pub put-both : {A B : Type 0} (P : A → B → Type 0) (i : ℕ) (a : A) (f : ℕ → A) (b : B) (g : ℕ → B) (j : ℕ)
+    → (i ≡ j → P a b) → (i ≢ j → P (f j) (g j)) → P (put i a f j) (put i b g j)
+put-both P i a f b g j same other = go (ℕ-discrete i j)
   where
-    go : Dec (i ≡ j) → P (put i a f j)
-    go (yes h) = rw (← h, put-same i a f) (same h)
-    go (no h) = rw (put-other i a f j h) (other h)
+    go : Dec (i ≡ j) → P (put i a f j) (put i b g j)
+    go (yes h) = rw (← h, put-same i a f, put-same i b g) (same h)
+    go (no h) = rw (put-other i a f j h, put-other i b g j h) (other h)
+
+-- and of one function
+pub put-cases : {A : Type 0} (P : A → Type 0) (i : ℕ) (a : A) (f : ℕ → A) (j : ℕ) → (i ≡ j → P a) → (i ≢ j → P (f j)) → P (put i a f j)
+put-cases P i a f j = put-both (λ x y. P x) i a f a f j
 
 -- and the way back
 pub put-inverse : {A B : Type 0} (P : A → Type 0) (i : ℕ) (a : A) (f : ℕ → A) (j : ℕ) → (i ≡ j → P a → B) → (i ≢ j → P (f j) → B) → P (put i a f j) → B

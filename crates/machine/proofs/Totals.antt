@@ -8,14 +8,14 @@ use mathlib.Core.List.{List, [], _∷_}
 use Prim.Native.Nat.{ℕ, zero, suc, _+_, _*_}
 use native.Mathlib.Nat.{mul-zero, mul-suc}
 use native.Mathlib.Omega.{arith}
-use lib.ListN.{length}
+use lib.ListN.{length, length-append}
 use Rattle.order.specs.Order.{Event, idle, mark, send, receipt, At, at-head, at-tail, Sound, sound-nil, sound-cons, Counts, counts-zero, counts-yes, counts-no}
 use Rattle.order.proofs.Places.{at-bound, at-cases, at-down}
 use Rattle.order.proofs.Counts.{counts-unique, counts-same}
 use Rattle.machine.specs.Machine.{Entry, absent, present, State, whole, full}
 use Rattle.machine.specs.Short.{Knowledge, brief, short, columns}
 use Rattle.machine.specs.History.{Due, DueInAll, none-due, send-due, other-due}
-use Rattle.machine.specs.Answer.{weight, entries, Totals, more, totals}
+use Rattle.machine.specs.Answer.{answer, answers, weight, entries, Totals, more, totals}
 use Rattle.machine.proofs.Small.{kind, differ, absent-present}
 use Rattle.machine.proofs.ShortMessages.{carried-exactly}
 
@@ -110,6 +110,18 @@ module _ (n : ℕ) (says : List Event → ℕ → ℕ → ℕ → Entry) (es : L
   pub total-sends : Counts (λ p. (i j m : ℕ) × At es p (send i j m)) (length es) (totals n says es .sends)
   total-sends =
       counts-same (λ p l h. let m = is-send (h .0) (h .2) in (m .0, m .1, m .2, rw (m .3) at (h .1))) (λ p l h. (send (h .0) (h .1) (h .2), h .3, refl)) (sends-counted n says es)
+
+-- there are as many answers as marks
+pub answers-many : (n : ℕ) (says : List Event → ℕ → ℕ → ℕ → Entry) (state : List Event → State) (es : List Event)
+    → length (answers n state es) ≡ totals n says es .marks
+unfolding answers totals more
+answers-many n says state [] = refl
+answers-many n says state (idle i ∷ past) = answers-many n says state past
+answers-many n says state (mark i ∷ past) =
+    let h = answers-many n says state past in
+    omega (arith, length-append (answers n state past) (answer n i (state past) ∷ []))
+answers-many n says state (send i j m ∷ past) = answers-many n says state past
+answers-many n says state (receipt j m ∷ past) = answers-many n says state past
 
 -- full messages carry n entries for each send
 pub full-carried : (n : ℕ) (es : List Event) → totals n (λ past. whole (full past)) es .carried ≡ n * totals n (λ past. whole (full past)) es .sends

@@ -1,7 +1,7 @@
 -- A place holds one event, a node has one last event, and a number flies once: by matching on how the cut was built.
 -- Assumes nothing.
 use mathlib.Core.Path.{_≡_, refl, sym, subst}
-use mathlib.Core.Logic.{_⊎_, inl, inr, ⊎-elim}
+use mathlib.Core.Logic.{_⊎_, inl, inr, _≢_, ⊎-elim}
 use mathlib.Core.List.{List, _∷_}
 use Prim.Native.Nat.{ℕ, _<_}
 use native.Mathlib.Nat.{le-refl}
@@ -48,6 +48,10 @@ pub flying-cases : {m i j : ℕ} {e : Event} {past : List Event} {p : ℕ} → F
     → ((e ≡ send i j m) × (p ≡ length past)) ⊎ ((¬ Names e m) × Flying m i j past p)
 flying-cases flying-head = inl (refl, refl)
 flying-cases (flying-tail h f) = inr (h, f)
+
+-- an event that sends nothing starts no flight
+pub flying-down : {m i j : ℕ} {e : Event} {past : List Event} {p : ℕ} → ((a b l : ℕ) → e ≢ send a b l) → Flying m i j (e ∷ past) p → Flying m i j past p
+flying-down {m} {i} {j} silent f = ⊎-elim (λ c. absurd (silent i j m (c .0))) (λ c. c .1) (flying-cases f)
 
 -- one flight of a number: its ends and the place of its send
 pub flying-unique : {m i j a b : ℕ} {es : List Event} {p q : ℕ} → Flying m i j es p → Flying m a b es q → (i ≡ a) × (j ≡ b) × (p ≡ q)

@@ -1,11 +1,3 @@
 pub mod Reader
 pub mod Stands
-pub mod Rules
-pub mod Walk
 pub mod FirstRecord
-pub mod Verdict
-pub mod Points
-pub mod Cuts
-pub mod Accepted
-pub mod Encoded
-pub mod Cases

@@ -1,4 +1,1 @@
 pub mod Record
-pub mod Verdict
-pub mod Table
-pub mod Lawful

@@ -8,13 +8,13 @@ use Prim.Native.Nat.{ℕ, _+_, _<_, _≤_}
 use native.Mathlib.Omega.{arith}
 use lib.ListN.{length, getD}
 use Rattle.order.specs.Order.{Event, Flying}
 use Rattle.log.specs.declared.Cursor.{Cursor}
 use Rattle.log.specs.declared.Record.{Record}
 use Rattle.log.specs.declared.Step.the-variants.{Read}
 use Rattle.log.specs.Record.{numberAt, recordAt}
-use Rattle.log.specs.Table.{Breaks, breaks-12, breaks-6, breaks-6-to, breaks-7, breaks-8, breaks-9, breaks-10, breaks-11, Refused, refused-2, refused-3, refused-4, refused-5, refused-rule}
+use Rattle.verdict.specs.Table.{Breaks, breaks-12, breaks-6, breaks-6-to, breaks-7, breaks-8, breaks-9, breaks-10, breaks-11, Refused, refused-2, refused-3, refused-4, refused-5, refused-rule}
 use Rattle.log.proofs.Stands.{Stands, stands, stands-idle, stands-mark, stands-send, stands-receipt, read-forward, unknown-there, short-there}
 use Rattle.log.proofs.FirstRecord.{missing-there, range-there}
 
 -- What the bytes are around the place of a refusal, for the record whose kind byte is at p. The last number is the place.
 pub data Points (log : List ℕ) (n : ℕ) (cut : List Event) (p : ℕ) : ℕ → ℕ → Type 0 where

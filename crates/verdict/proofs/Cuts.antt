@@ -10,19 +10,19 @@ use native.Mathlib.Omega.{arith}
 use lib.ListN.{length, getD, take}
 use lib.Seq.{length-take-le, getD-take}
 use Rattle.order.specs.Order.{Event}
 use Rattle.log.specs.declared.Cursor.{Cursor}
 use Rattle.log.specs.declared.Record.{Record}
 use Rattle.log.specs.declared.Step.{Step}
 use Rattle.log.specs.declared.Step.the-variants.{Read, End, Unknown, Short}
 use Rattle.log.specs.declared.Opening.the-variants.{Nodes}
 use Rattle.log.specs.Record.{recordAt, openingOf}
-use Rattle.log.specs.Verdict.{Verdict, accepted, eventOf, Rule, rules, firstBroken, afterStep, afterRules, walk, verdict}
-use Rattle.log.specs.Table.{Reached, reached-first, reached-next, Ends, ends-first, ends-next, refused-rule}
+use Rattle.verdict.specs.Verdict.{Verdict, accepted, eventOf, Rule, rules, firstBroken, afterStep, afterRules, walk, verdict}
+use Rattle.verdict.specs.Table.{Reached, reached-first, reached-next, Ends, ends-first, ends-next, refused-rule}
 use Rattle.log.proofs.Stands.{read-forward, read-same}
 use Rattle.log.proofs.FirstRecord.{nodes-there, nodes-same}
-use Rattle.log.proofs.Rules.{Judged, judged-breaks, judged-passes, judged}
-use Rattle.log.proofs.Walk.{reached-walk}
-use Rattle.log.proofs.Verdict.{not-accepted, reached-bound, verdict-accepted, verdict-refused}
+use Rattle.verdict.proofs.Rules.{Judged, judged-breaks, judged-passes, judged}
+use Rattle.verdict.proofs.Walk.{reached-walk}
+use Rattle.verdict.proofs.Verdict.{not-accepted, reached-bound, verdict-accepted, verdict-refused}
 
 -- ---- the bytes before a place decide what was reached there
 

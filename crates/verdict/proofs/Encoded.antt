@@ -9,24 +9,22 @@ use native.Mathlib.Nat.{le-refl}
 use native.Mathlib.Omega.{arith}
 use lib.ListN.{length, getD, take, drop, length-append, List·getD-append}
 use lib.Seq.{take-length, take-add, drop-cons, getD-append-add}
-use Rattle.order.specs.Order.{Event, idle, mark, send, receipt, Allowed, Sound, sound-cons}
-use Rattle.order.specs.Flight.{inFlight}
-use Rattle.order.proofs.Flight.{without-none, listed-flying}
-use Rattle.order.proofs.Growing.{sound-cut}
+use Rattle.order.specs.Order.{Event, idle, mark, send, receipt}
 use Rattle.log.specs.declared.Cursor.{Cursor}
 use Rattle.log.specs.declared.Record.{Record}
 use Rattle.log.specs.declared.Record.the-variants.{Idle, Mark, Send, Receipt}
 use Rattle.log.specs.declared.Step.the-variants.{Read}
 use Rattle.log.specs.declared.Opening.the-variants.{Nodes}
 use Rattle.log.specs.Record.{place, recordAt}
-use Rattle.log.specs.Verdict.{accepted, eventOf, verdict}
-use Rattle.log.specs.Table.{Passes, Reached, reached-first, reached-next}
-use Rattle.log.specs.Lawful.{Lawful, Bytes, recordOf, bytesOf}
+use Rattle.verdict.specs.Verdict.{accepted, eventOf, verdict}
+use Rattle.verdict.specs.Table.{Reached, reached-first, reached-next}
+use Rattle.verdict.specs.Lawful.{Lawful, Bytes, recordOf, bytesOf}
 use Rattle.log.proofs.Stands.{Stands, stands, stands-idle, stands-mark, stands-send, stands-receipt, stands-read}
 use Rattle.log.proofs.FirstRecord.{Opens, opens, opens-nodes, opens-read}
-use Rattle.log.proofs.Verdict.{verdict-accepted}
-use Rattle.log.proofs.Cuts.{reached-same}
-use Rattle.log.proofs.Accepted.{accepted-lawful}
+use Rattle.verdict.proofs.Verdict.{verdict-accepted}
+use Rattle.verdict.proofs.Cuts.{reached-same}
+use Rattle.verdict.proofs.Lawfully.{lawful-past, passes-lawful}
+use Rattle.verdict.proofs.Accepted.{accepted-lawful}
 
 -- ---- from what was reached to the bytes
 
@@ -114,31 +112,7 @@ module _ (xs : List ℕ) where
       stands-read (xs ++ ys) (length xs) (stands-receipt (behind ys 0 _ (omega arith)) (omega (arith, length-append xs ys)))
       ∙ rw (behind ys 1 (length xs + 1) refl, number-behind ys 2 (length xs + 2) m refl refl refl)
 
--- a lawful row's latest event passes after the others
-lawful-passes : (n : ℕ) (e : Event) (past : List Event) → Lawful n (e ∷ past) → Passes n past (recordFor e)
-unfolding inFlight
-lawful-passes n e past l = go e (l .few-events) (sound-head (l .sound)) (l .few-flying [] (e ∷ past) refl)
-  where
-    sound-head : {e : Event} → Sound n (e ∷ past) → Allowed n past e
-    sound-head (sound-cons a h) = a
-
-    go : (e : Event) → length (e ∷ past) ≤ 4096 → Allowed n past e → length (inFlight (e ∷ past)) ≤ 128 → Passes n past (recordFor e)
-    go (idle i) many ok full = (many, ok, tt)
-    go (mark i) many ok full = (many, ok, tt)
-    go (send i j m) many ok full =
-        let same = without-none m (inFlight past) (λ x k q. ok .3 (x .from) (x .to) (x .sent) (rw q at (listed-flying past x k))) in
-        (many, ok, rw same at full)
-    go (receipt j m) many ok full = (many, ok, tt)
-
-lawful-tail : {n : ℕ} {e : Event} {past : List Event} → Lawful n (e ∷ past) → Lawful n past
-lawful-tail {n} {e} {past} l = record {
-  some-node = l .some-node;
-  few-nodes = l .few-nodes;
-  sound = sound-cut (e ∷ []) (l .sound);
-  few-events = let h = l .few-events in omega arith;
-  few-flying = λ later old h. l .few-flying (e ∷ later) old (ap (λ (x : List Event). e ∷ x) h);
-}
-
+-- the bytes of a lawful row are reached to their end, record by record
 lawful-reached : {n : ℕ} (cut : List Event) → Lawful n cut → Reached (bytesOf n cut) n (length (bytesOf n cut)) cut
 unfolding bytesOf
 lawful-reached {n} [] l = reached-first (opens-read (0x10 ∷ n ∷ []) (opens-nodes (le-refl _) refl (l .some-node) (l .few-nodes)))
@@ -146,8 +120,8 @@ lawful-reached {n} (e ∷ past) l =
     let xs = bytesOf n past in
     let ys = recordOf e in
     let here = reached-same xs (xs ++ ys) (length xs) (omega (arith, length-append xs ys)) (λ i h. sym (List·getD-append xs ys 0 i h))
-    (lawful-reached past (lawful-tail l)) (le-refl _) in
-    let next = reached-next here (encoded-read xs e) (lawful-passes n e past l) in
+    (lawful-reached past (lawful-past l)) (le-refl _) in
+    let next = reached-next here (encoded-read xs e) (passes-lawful (recordFor e) (rw (record-event e) l)) in
     rw length-append (rw (record-event e) at next)
 
 -- ---- both

@@ -7,16 +7,16 @@ use Prim.Native.Nat.{ℕ, zero, suc, _+_, _≤_}
 use native.Mathlib.Omega.{arith}
 use lib.ListN.{length}
 use Rattle.order.specs.Order.{Event}
 use Rattle.log.specs.declared.Cursor.{Cursor}
 use Rattle.log.specs.declared.Record.{Record}
 use Rattle.log.specs.declared.Step.{Step}
 use Rattle.log.specs.declared.Step.the-variants.{Read, End, Unknown, Short}
 use Rattle.log.specs.Record.{recordAt}
-use Rattle.log.specs.Verdict.{Verdict, accepted, eventOf, rules, firstBroken, afterStep, afterRules, walk, verdict}
-use Rattle.log.specs.Table.{Passes, Reached, reached-first, reached-next}
+use Rattle.verdict.specs.Verdict.{Verdict, accepted, eventOf, rules, firstBroken, afterStep, afterRules, walk, verdict}
+use Rattle.verdict.specs.Table.{Passes, Reached, reached-first, reached-next}
 use Rattle.log.proofs.Reader.{record-end}
 use Rattle.log.proofs.Stands.{read-forward}
-use Rattle.log.proofs.Rules.{passes-first}
+use Rattle.verdict.proofs.Rules.{passes-first}
 
 -- what follows a step depends on what is done with the record that it read
 step-same : (s : Step) (n : ℕ) (cut : List Event) (f g : Record → ℕ → Verdict) → ((r : Record) (c : Cursor) → s ≡ Read r c → f r (c .at) ≡ g r (c .at))

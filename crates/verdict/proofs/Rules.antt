@@ -14,12 +14,12 @@ use Rattle.order.specs.Order.{Event, nodeOf, Flying, Allowed}
 use Rattle.order.specs.Flight.{Message, inFlight}
 use Rattle.order.proofs.Places.{flying-unique}
 use Rattle.order.proofs.Flight.{flying-listed, listed-flying, message}
 use Rattle.log.specs.declared.Node.{Node}
 use Rattle.log.specs.declared.MessageNumber.{MessageNumber}
 use Rattle.log.specs.declared.Record.{Record}
 use Rattle.log.specs.declared.Record.the-variants.{Idle, Mark, Send, Receipt}
-use Rattle.log.specs.Verdict.{eventOf, any, filled, crowded, flies, fliesElsewhere, Rule, rule, rules, firstBroken}
-use Rattle.log.specs.Table.{Breaks, breaks-12, breaks-6, breaks-6-to, breaks-7, breaks-8, breaks-9, breaks-10, breaks-11, Room, Passes}
+use Rattle.verdict.specs.Verdict.{eventOf, any, filled, crowded, flies, fliesElsewhere, Rule, rule, rules, firstBroken}
+use Rattle.verdict.specs.Table.{Breaks, breaks-12, breaks-6, breaks-6-to, breaks-7, breaks-8, breaks-9, breaks-10, breaks-11, Room, Passes}
 
 -- ---- tests over the messages in flight
 

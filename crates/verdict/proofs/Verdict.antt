@@ -10,20 +10,20 @@ use native.Mathlib.Nat.{le-refl}
 use native.Mathlib.Omega.{arith}
 use lib.ListN.{length}
 use Rattle.order.specs.Order.{Event}
 use Rattle.log.specs.declared.Cursor.{Cursor}
 use Rattle.log.specs.declared.Record.{Record}
 use Rattle.log.specs.declared.Step.{Step}
 use Rattle.log.specs.declared.Step.the-variants.{Read, End, Unknown, Short}
 use Rattle.log.specs.declared.Opening.{Opening}
 use Rattle.log.specs.declared.Opening.the-variants.{Nodes, Missing, OutOfRange}
 use Rattle.log.specs.Record.{recordAt, openingOf}
-use Rattle.log.specs.Verdict.{Verdict, refused, accepted, eventOf, Rule, rules, firstBroken, afterOpening, afterStep, afterRules, walk, verdict}
-use Rattle.log.specs.Table.{Passes, Reached, reached-first, reached-next, Refused, refused-2, refused-3, refused-4, refused-5, refused-rule, Row, row-accepted, row-refused}
+use Rattle.verdict.specs.Verdict.{Verdict, refused, accepted, eventOf, Rule, rules, firstBroken, afterOpening, afterStep, afterRules, walk, verdict}
+use Rattle.verdict.specs.Table.{Passes, Reached, reached-first, reached-next, Refused, refused-2, refused-3, refused-4, refused-5, refused-rule, Row, row-accepted, row-refused}
 use Rattle.log.proofs.Reader.{record-end}
 use Rattle.log.proofs.Stands.{read-forward, end-there}
 use Rattle.log.proofs.FirstRecord.{nodes-there}
-use Rattle.log.proofs.Rules.{Judged, judged-breaks, judged-passes, judged, breaks-first}
-use Rattle.log.proofs.Walk.{reached-walk}
+use Rattle.verdict.proofs.Rules.{Judged, judged-breaks, judged-passes, judged, breaks-first}
+use Rattle.verdict.proofs.Walk.{reached-walk}
 
 -- what is refused is not accepted
 pub not-accepted : {A : Type 0} {x q n : ℕ} {cut : List Event} → refused x q ≡ accepted n cut → A

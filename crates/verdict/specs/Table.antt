@@ -8,15 +8,15 @@ use Prim.Native.Nat.{ℕ, _+_, _<_, _≤_}
 use lib.ListN.{length}
 use Rattle.order.specs.Order.{Event, idle, mark, send, receipt, nodeOf, Flying, Allowed}
 use Rattle.order.specs.Flight.{inFlight}
 use Rattle.log.specs.declared.Node.{Node}
 use Rattle.log.specs.declared.MessageNumber.{MessageNumber}
 use Rattle.log.specs.declared.Cursor.{Cursor}
 use Rattle.log.specs.declared.Record.{Record}
 use Rattle.log.specs.declared.Record.the-variants.{Send, Receipt}
 use Rattle.log.specs.declared.Step.the-variants.{Read, Unknown, Short}
 use Rattle.log.specs.declared.Opening.the-variants.{Nodes, Missing, OutOfRange}
 use Rattle.log.specs.Record.{recordAt, openingOf}
-use Rattle.log.specs.Verdict.{Verdict, refused, accepted, eventOf}
+use Rattle.verdict.specs.Verdict.{Verdict, refused, accepted, eventOf}
 
 -- The whole record at place p, for n nodes after the events of cut, breaks the rule of this number, and none that is tested
 -- before it: 12, 6 (sender first), 7, 8, 9, 10, 11. The last number is the refusal's place.

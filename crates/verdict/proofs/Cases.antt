@@ -7,8 +7,8 @@ use Prim.Native.Nat.{ℕ}
 use Rattle.order.specs.Order.{mark}
 use Rattle.order.specs.Flight.{without, inFlight}
 use Rattle.order.proofs.Samples.{cutA, cutB}
 use Rattle.log.specs.Record.{wholeAt, recordAt, openingOf}
-use Rattle.log.specs.Verdict.{Verdict, refused, accepted, rules, walk, verdict}
+use Rattle.verdict.specs.Verdict.{Verdict, refused, accepted, rules, walk, verdict}
 
 -- a log and the verdict that 01 gives
 pub record Case : Type 0 where

@@ -1,0 +1,9 @@
+pub mod Rules
+pub mod Walk
+pub mod Verdict
+pub mod Points
+pub mod Cuts
+pub mod Accepted
+pub mod Lawfully
+pub mod Encoded
+pub mod Cases

@@ -1,0 +1,3 @@
+pub mod Cellwise
+pub mod Rowwise
+pub mod Entries

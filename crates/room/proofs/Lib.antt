@@ -1,0 +1,9 @@
+pub mod Slots
+pub mod LawfulSlots
+pub mod Places
+pub mod OneRoom
+pub mod StartRoom
+pub mod Bounded
+pub mod BothModes
+pub mod Surveying
+pub mod Sample

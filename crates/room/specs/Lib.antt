@@ -1,0 +1,4 @@
+pub mod Modes
+pub mod Slots
+pub mod Room
+pub mod Finding

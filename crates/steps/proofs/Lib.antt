@@ -1,0 +1,9 @@
+pub mod Parts
+pub mod LentRooms
+pub mod Ready
+pub mod RowsFollow
+pub mod MarkFollows
+pub mod LettersFollow
+pub mod SendFollows
+pub mod ReceiptFollows
+pub mod FollowOnce

@@ -7,7 +7,9 @@ ghost use Rattle.room.specs.Finding.{Finds, looked, surveyed};
 
 // Where a letter lies.
 pub enum Found {
+    // In this slot.
     In(usize),
+    // In none: it is not in flight.
     Nowhere,
 }
 

@@ -7,3 +7,4 @@ pub mod LettersFollow
 pub mod SendFollows
 pub mod ReceiptFollows
 pub mod FollowOnce
+pub mod Carried

@@ -1,4 +1,4 @@
--- The table has one answer to a record, since the first broken rule is one.
+-- The table has one answer to a record, since the first broken rule is one; and a record that is admitted is ready to be applied.
 -- Assumes nothing.
 use mathlib.Core.Path.{_≡_, refl, sym, _∙_}
 use mathlib.Core.Option.{Option, none, some}

@@ -102,16 +102,6 @@ lowest-free [] = refl
 lowest-free (none ∷ rest) = refl
 lowest-free (some x ∷ rest) = lowest-free rest
 
--- a free slot below which none is free is the lowest
-pub lowest-is : (S : List Slot) (r : ℕ) → ((t : ℕ) → t < r → slotAt S t ≢ none) → slotAt S r ≡ none → lowest S ≡ r
-unfolding lowest
-lowest-is [] zero below free = refl
-lowest-is [] (suc r) below free = absurd (below 0 (omega arith) refl)
-lowest-is (none ∷ rest) zero below free = refl
-lowest-is (none ∷ rest) (suc r) below free = absurd (below 0 (omega arith) refl)
-lowest-is (some x ∷ rest) zero below free = free-taken (sym free)
-lowest-is (some x ∷ rest) (suc r) below free = ap suc (lowest-is rest r (λ t h. below (suc t) (omega arith)) free)
-
 -- the slots below it are taken
 pub lowest-taken : (S : List Slot) → lowest S ≤ taken S
 unfolding lowest taken

@@ -1,6 +1,5 @@
--- What is found in the mail, tied to the slots and to the messages in flight: each slot's first three elements show whether it is
--- free and which number it has, so that the walk over the mail's slots counts, finds and compares what the cut's slots have; and
--- the table has one answer to a record, since the first broken rule is one.
+-- What is found in the mail is what is in flight: each slot's first three elements show whether it is free and which number it
+-- has, so that the walk over the mail's slots counts, finds and compares what the cut's slots have.
 -- Assumes nothing.
 use mathlib.Core.Path.{_≡_, refl, sym, ap, _∙_}
 use mathlib.Core.Logic.{_≢_, _⊎_, inl, inr}
@@ -127,15 +126,15 @@ borne-by m (some x) h = (x, refl, eqb-true (x .number) m h)
 
 -- ---- the slots of a lawful cut
 
-module _ {n : ℕ} {cut : List Event} {mail : List ℕ} (judging : Mailed n cut mail) where
+module _ {n : ℕ} {cut : List Event} {mail : List ℕ} (mailed : Mailed n cut mail) where
   -- the mail shows them
   shown : (s : ℕ) → s < 128 → Lies mail s (slotAt (slots cut) s)
   unfolding barn
-  shown s h = lies (judging .letters) s h
+  shown s h = lies (mailed .letters) s h
 
   -- a message in flight lies in one of them
   flying-shown : {m a b q : ℕ} → Flying m a b cut q → (s : ℕ) × (s < 128) × (slotAt (slots cut) s ≡ some (message m a b q))
-  flying-shown f = let r = flying-slot f in (r .0, slot-below (judging .lawful) (r .0) (r .1), r .1)
+  flying-shown f = let r = flying-slot f in (r .0, slot-below (mailed .lawful) (r .0) (r .1), r .1)
 
   -- ---- found by the walk
 
@@ -179,7 +178,7 @@ module _ {n : ℕ} {cut : List Event} {mail : List ℕ} (judging : Mailed n cut 
   -- as many slots are counted as messages are in flight
   pub survey-flying : (number : ℕ) → surveyed number mail 128 .flying ≡ length (inFlight cut)
   survey-flying number =
-      counted number 128 (le-refl 128) ∙ ap taken (take-all 128 (slots cut) (slots-few (judging .lawful))) ∙ taken-flying cut
+      counted number 128 (le-refl 128) ∙ ap taken (take-all 128 (slots cut) (slots-few (mailed .lawful))) ∙ taken-flying cut
 
   -- where there is room, the lowest free slot is found
   pub survey-free : length (inFlight cut) < 128 → (number : ℕ) → surveyed number mail 128 .free ≡ lowest (slots cut)

@@ -24,7 +24,7 @@ use Rattle.cells.proofs.Rowwise.{same-cell}
 -- ---- a slot whose first three elements are written and whose letter was then lent
 
 -- three stores, one after another
-abbrev pub headed : List ℕ → ℕ → ℕ → ℕ → ℕ → List ℕ
+abbrev headed : List ℕ → ℕ → ℕ → ℕ → ℕ → List ℕ
 headed mail at x y z = set (set (set mail at x) (at + 1) y) (at + 2) z
 
 module _ (n slot : ℕ) (few : n ≤ 32) (hs : slot < 128) (mail : List ℕ) (lm : length mail ≡ 4480) (x y z k : ℕ) (ek : k ≡ n) where
@@ -44,7 +44,7 @@ module _ (n slot : ℕ) (few : n ≤ 32) (hs : slot < 128) (mail : List ℕ) (lm
       ∙ getD-set-other mail (35 * slot) p x 0 (λ q. ⊎-elim (λ l. omega arith) (λ l. omega arith) out)
 
   -- the letter that is lent is the slot's
-  pub lent-entry : (m : ℕ) → m < n → getD (midOf (35 * slot + 3) k Headed) m 0 ≡ getD mail (35 * slot + 3 + m) 0
+  lent-entry : (m : ℕ) → m < n → getD (midOf (35 * slot + 3) k Headed) m 0 ≡ getD mail (35 * slot + 3 + m) 0
   lent-entry m h = part-at Headed (35 * slot + 3) k m (omega arith) ∙ headed-else (35 * slot + 3 + m) (inr (omega arith))
 
   module _ (letter : List ℕ) (ll : length letter ≡ length (midOf (35 * slot + 3) k Headed)) where
@@ -57,28 +57,28 @@ module _ (n slot : ℕ) (few : n ≤ 32) (hs : slot < 128) (mail : List ℕ) (lm
     ahead : (p : ℕ) → p < 35 * slot + 3 → getD Whole p 0 ≡ getD Headed p 0
     ahead p h = back-out Headed (35 * slot + 3) k letter letter-in letter-length p (inl h)
 
-    pub whole-first : getD Whole (35 * slot) 0 ≡ x
+    whole-first : getD Whole (35 * slot) 0 ≡ x
     whole-first =
         ahead (35 * slot) (omega arith)
         ∙ getD-set-other (set (set mail (35 * slot) x) (35 * slot + 1) y) (35 * slot + 2) (35 * slot) z 0 (λ q. omega arith)
         ∙ getD-set-other (set mail (35 * slot) x) (35 * slot + 1) (35 * slot) y 0 (λ q. omega arith) ∙ getD-set-same mail (35 * slot) x 0 (omega arith)
 
-    pub whole-second : getD Whole (35 * slot + 1) 0 ≡ y
+    whole-second : getD Whole (35 * slot + 1) 0 ≡ y
     whole-second =
         ahead (35 * slot + 1) (omega arith)
         ∙ getD-set-other (set (set mail (35 * slot) x) (35 * slot + 1) y) (35 * slot + 2) (35 * slot + 1) z 0 (λ q. omega arith)
         ∙ getD-set-same (set mail (35 * slot) x) (35 * slot + 1) y 0 (omega (arith, length-set mail (35 * slot) x))
 
-    pub whole-third : getD Whole (35 * slot + 2) 0 ≡ z
+    whole-third : getD Whole (35 * slot + 2) 0 ≡ z
     whole-third =
         ahead (35 * slot + 2) (omega arith)
         ∙ getD-set-same (set (set mail (35 * slot) x) (35 * slot + 1) y) (35 * slot + 2) z 0
         (omega (arith, length-set mail (35 * slot) x, length-set (set mail (35 * slot) x) (35 * slot + 1) y))
 
-    pub whole-entry : (m : ℕ) → m < n → getD Whole (35 * slot + 3 + m) 0 ≡ getD letter m 0
+    whole-entry : (m : ℕ) → m < n → getD Whole (35 * slot + 3 + m) 0 ≡ getD letter m 0
     whole-entry m h = back-in Headed (35 * slot + 3) k letter letter-in letter-length m (omega arith)
 
-    pub whole-else : (p : ℕ) → Outside (35 * slot) (3 + n) p → getD Whole p 0 ≡ getD mail p 0
+    whole-else : (p : ℕ) → Outside (35 * slot) (3 + n) p → getD Whole p 0 ≡ getD mail p 0
     whole-else p out =
         back-out Headed (35 * slot + 3) k letter letter-in letter-length p (⊎-elim (λ l. inl (omega arith)) (λ l. inr (omega arith)) out)
         ∙ headed-else p (⊎-elim (λ l. inl (omega arith)) (λ l. inr (omega arith)) out)
@@ -112,7 +112,7 @@ module _ (n i : ℕ) (counts words : List ℕ) (lc : length counts ≡ 1024) (lw
     module _ (j m spared : ℕ) (letter : List ℕ) (carried : ℕ)
         (ll : length letter ≡ length (midOf (35 * slot + 3) km (headed mail (35 * slot) (i + 1) j m)))
         (P : Packed spared Row RowColumns (getD words i 0) (length Row) letter carried) where
-      pub letter-sent : Sent n i j m slot spared counts words mail (putMid (35 * slot + 3) km (headed mail (35 * slot) (i + 1) j m) letter)
+      letter-sent : Sent n i j m slot spared counts words mail (putMid (35 * slot + 3) km (headed mail (35 * slot) (i + 1) j m) letter)
       letter-sent = record {
         from = whole-first n slot few hs mail lm (i + 1) j m km em letter ll ∙ add-one i;
         to = whole-second n slot few hs mail lm (i + 1) j m km em letter ll;
@@ -123,10 +123,15 @@ module _ (n i : ℕ) (counts words : List ℕ) (lc : length counts ≡ 1024) (lw
         mail-else = whole-else n slot few hs mail lm (i + 1) j m km em letter ll;
       }
 
-      pub letter-counted : carried ≡ entries n (λ k. saidOf spared (held n counts words i k))
+      letter-counted : carried ≡ entries n (λ k. saidOf spared (held n counts words i k))
       letter-counted =
           P .counted ∙ ap (λ k. entries k (λ k. saidOf spared (cellAt Row RowColumns (getD words i 0) k))) row-length
           ∙ entries-same n _ _ (λ k h. ap (saidOf spared) (lent-cell k h))
+
+      -- the slot has the letter, and so many entries went along
+      pub letter-posted : Sent n i j m slot spared counts words mail (putMid (35 * slot + 3) km (headed mail (35 * slot) (i + 1) j m) letter)
+          × (carried ≡ entries n (λ k. saidOf spared (held n counts words i k)))
+      letter-posted = (letter-sent, letter-counted)
 
     -- ---- a letter taken
 

@@ -9,7 +9,7 @@ use native.Mathlib.Omega.{arith}
 use Rattle.verdict.specs.Table.{breaks-6}
 use Rattle.protocol.specs.Admission.{refuses}
 use Rattle.room.specs.Finding.{Finds, finds}
-use Rattle.protocol.proofs.Judging.{judged-elsewhere, judged-arrived, judged-missing}
+use Rattle.protocol.proofs.Admitting.{judged-elsewhere, judged-arrived, judged-missing}
 use borrow.Author.Needs.{needs}
 use Rattle.protocol.proofs.admit_receipt.Statement.{statement}
 use Rattle.protocol.proofs.admit_receipt.Tie as tie

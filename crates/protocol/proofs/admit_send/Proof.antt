@@ -2,7 +2,7 @@
 -- Assumes nothing.
 use Rattle.verdict.specs.Table.{breaks-6, breaks-6-to, breaks-7}
 use Rattle.protocol.specs.Admission.{refuses}
-use Rattle.protocol.proofs.Judging.{judged-repeated, judged-crowded, judged-free}
+use Rattle.protocol.proofs.Admitting.{judged-repeated, judged-crowded, judged-free}
 use borrow.Author.Needs.{needs}
 use Rattle.protocol.proofs.admit_send.Statement.{statement}
 use Rattle.protocol.proofs.admit_send.Tie as tie

@@ -6,7 +6,7 @@ use native.Mathlib.Omega.{arith}
 use lib.ListN.{length-set}
 use Rattle.room.proofs.Places.{row-within}
 use Rattle.steps.proofs.Parts.{part-size, part-bounded}
-use Rattle.steps.proofs.LentRooms.{letter-sent, letter-counted}
+use Rattle.steps.proofs.LentRooms.{letter-posted}
 use borrow.Author.Needs.{needs}
 use Rattle.sends.proofs.post.Statement.{statement}
 use Rattle.sends.proofs.post.Tie as tie
@@ -129,14 +129,10 @@ returns c =
     let a = s .args in
     let n = a .nodes in
     let i = a .from .0 in
-    let P = c .before .before .pack in (
-      letter-sent n i (a .counts .now) (a .words .now) (s .pre .1 .0 .0) (s .pre .1 .0 .1) (s .pre .0 .0) (s .pre .0 .1) _ _ (part-size (n * i) n) (part-size (32 + n * i) n)
-          (a .slot) (s .pre .0 .3) (a .mail .now) (s .pre .1 .0 .2) _ (part-size (35 * a .slot + 3) n)
-          (a .to .0) (a .number .0) (a .spared) (P .last .1 .1 .1 .1 .0) (P .result) (P .kept .1 .1 .1 .1 .0) (P .ensures),
-      letter-counted n i (a .counts .now) (a .words .now) (s .pre .1 .0 .0) (s .pre .1 .0 .1) (s .pre .0 .0) (s .pre .0 .1) _ _ (part-size (n * i) n) (part-size (32 + n * i) n)
-          (a .slot) (s .pre .0 .3) (a .mail .now) (s .pre .1 .0 .2) _ (part-size (35 * a .slot + 3) n)
-          (a .to .0) (a .number .0) (a .spared) (P .last .1 .1 .1 .1 .0) (P .result) (P .kept .1 .1 .1 .1 .0) (P .ensures),
-    )
+    let P = c .before .before .pack in
+    letter-posted n i (a .counts .now) (a .words .now) (s .pre .1 .0 .0) (s .pre .1 .0 .1) (s .pre .0 .0) (s .pre .0 .1) _ _
+    (part-size (n * i) n) (part-size (32 + n * i) n) (a .slot) (s .pre .0 .3) (a .mail .now) (s .pre .1 .0 .2) _ (part-size (35 * a .slot + 3) n)
+    (a .to .0) (a .number .0) (a .spared) (P .last .1 .1 .1 .1 .0) (P .result) (P .kept .1 .1 .1 .1 .0) (P .ensures)
 
 pub post-spec : {M : Type 1} → statement M
 post-spec =

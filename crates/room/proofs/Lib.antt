@@ -7,3 +7,4 @@ pub mod Bounded
 pub mod BothModes
 pub mod Surveying
 pub mod Sample
+pub mod Zeroed

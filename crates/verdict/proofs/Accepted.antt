@@ -44,7 +44,8 @@ size-most (Mark i) = omega arith
 size-most (Send i j m) = omega arith
 size-most (Receipt j m) = omega arith
 
-reached-length : {log : List ℕ} {n p : ℕ} {cut : List Event} → Reached log n p cut → p ≤ 2 + 5 * length cut
+-- a place that was reached is not far: no record has more than five bytes
+pub reached-length : {log : List ℕ} {n p : ℕ} {cut : List Event} → Reached log n p cut → p ≤ 2 + 5 * length cut
 reached-length {log} (reached-first e) = let h = nodes-there log e in omega arith
 reached-length {log} (reached-next {p = p} {r = r} before e h) = omega (arith, reached-length before, read-size log p e, size-most r)
 

@@ -1,0 +1,4 @@
+pub mod Notes
+pub mod MarkShown
+pub mod Turns
+pub mod OnePass

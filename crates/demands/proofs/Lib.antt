@@ -1,0 +1,15 @@
+pub mod OneResult
+pub mod Endings
+pub mod Refusals
+pub mod RoomsBefore
+pub mod Cases
+pub mod ListedMarks
+pub mod Arrows
+pub mod ReadBack
+pub mod SameRows
+pub mod Messages
+pub mod EveryCut
+pub mod Letters
+pub mod Inputs
+pub mod Useless
+pub mod UselessMessages

@@ -1,0 +1,1 @@
+// The three demands, from the promise of a run alone. No code.

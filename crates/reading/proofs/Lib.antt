@@ -1,0 +1,3 @@
+pub mod Standing
+pub mod StampRead
+pub mod GroupRead

@@ -1,0 +1,4 @@
+pub mod Turns
+pub mod Answered
+pub mod Lines
+pub mod Samples

@@ -1,0 +1,70 @@
+-- 01's text, computed: the three lines of log A from the 47 bytes of its report, and two numbers.
+-- Assumes nothing.
+use mathlib.Core.Path.{_≡_, refl}
+use mathlib.Core.List.{List, [], _∷_}
+use Prim.Native.Nat.{ℕ}
+use Rattle.words.specs.Words.{digits, decimal}
+use Rattle.reading.specs.Reading.{wholeAt, stampHere, countAt, pastCount, stampPlace, stampAt, causesHere, causesAt, groupHere, groupAt, markAt}
+use Rattle.text.specs.Text.{nameText, stampText, causesText, nearestText, markPart, stampPart, fromPart, lineOf, markLine, writtenLine, lineAt}
+use Rattle.text.specs.declared.Line.the-variants.{Written, End, Bad}
+
+-- ---- numbers
+
+nought : decimal 0 ≡ 48 ∷ []
+unfolding decimal digits
+nought = refl
+
+many : decimal 4096 ≡ 52 ∷ 48 ∷ 57 ∷ 54 ∷ []
+unfolding decimal digits
+many = refl
+
+-- ---- log A
+
+-- its report: a group on each line
+reportA : List ℕ
+reportA =
+    0x21 ∷ 0x00 ∷ 0x01 ∷ 0x00 ∷ 0x00 ∷ 0x22 ∷ 0x00 ∷ 0x01 ∷ 0x00
+    ∷ 0x21 ∷ 0x01 ∷ 0x01 ∷ 0x00 ∷ 0x01 ∷ 0x22 ∷ 0x00 ∷ 0x01 ∷ 0x00 ∷ 0x22 ∷ 0x01 ∷ 0x01 ∷ 0x00 ∷ 0x23 ∷ 0x00 ∷ 0x01 ∷ 0x00
+    ∷ 0x21 ∷ 0x02 ∷ 0x01 ∷ 0x00 ∷ 0x01 ∷ 0x22 ∷ 0x00 ∷ 0x01 ∷ 0x00 ∷ 0x22 ∷ 0x01 ∷ 0x01 ∷ 0x00 ∷ 0x22 ∷ 0x02 ∷ 0x01 ∷ 0x00 ∷ 0x23 ∷ 0x01 ∷ 0x01 ∷ 0x00 ∷ []
+
+-- `mark 0.1 stamp 1 0 0 from -`
+firstText : List ℕ
+firstText =
+    109 ∷ 97 ∷ 114 ∷ 107 ∷ 32 ∷ 48 ∷ 46 ∷ 49
+    ∷ 32 ∷ 115 ∷ 116 ∷ 97 ∷ 109 ∷ 112 ∷ 32 ∷ 49 ∷ 32 ∷ 48 ∷ 32 ∷ 48
+    ∷ 32 ∷ 102 ∷ 114 ∷ 111 ∷ 109 ∷ 32 ∷ 45 ∷ 10 ∷ []
+
+first-line : lineAt 3 reportA 0 [] ≡ (Written 28 9, firstText)
+unfolding reportA firstText lineAt writtenLine markAt groupHere groupAt wholeAt stampHere countAt pastCount stampPlace stampAt causesHere causesAt markLine lineOf markPart stampPart fromPart nameText stampText causesText nearestText decimal digits
+first-line = refl
+
+-- `mark 1.1 stamp 1 1 0 from 0.1`
+secondText : List ℕ
+secondText =
+    109 ∷ 97 ∷ 114 ∷ 107 ∷ 32 ∷ 49 ∷ 46 ∷ 49
+    ∷ 32 ∷ 115 ∷ 116 ∷ 97 ∷ 109 ∷ 112 ∷ 32 ∷ 49 ∷ 32 ∷ 49 ∷ 32 ∷ 48
+    ∷ 32 ∷ 102 ∷ 114 ∷ 111 ∷ 109 ∷ 32 ∷ 48 ∷ 46 ∷ 49 ∷ 10 ∷ []
+
+second-line : lineAt 3 reportA 9 [] ≡ (Written 30 26, secondText)
+unfolding reportA secondText lineAt writtenLine markAt groupHere groupAt wholeAt stampHere countAt pastCount stampPlace stampAt causesHere causesAt markLine lineOf markPart stampPart fromPart nameText stampText causesText nearestText decimal digits
+second-line = refl
+
+-- `mark 2.1 stamp 1 1 1 from 1.1`
+thirdText : List ℕ
+thirdText =
+    109 ∷ 97 ∷ 114 ∷ 107 ∷ 32 ∷ 50 ∷ 46 ∷ 49
+    ∷ 32 ∷ 115 ∷ 116 ∷ 97 ∷ 109 ∷ 112 ∷ 32 ∷ 49 ∷ 32 ∷ 49 ∷ 32 ∷ 49
+    ∷ 32 ∷ 102 ∷ 114 ∷ 111 ∷ 109 ∷ 32 ∷ 49 ∷ 46 ∷ 49 ∷ 10 ∷ []
+
+third-line : lineAt 3 reportA 26 [] ≡ (Written 30 47, thirdText)
+unfolding reportA thirdText lineAt writtenLine markAt groupHere groupAt wholeAt stampHere countAt pastCount stampPlace stampAt causesHere causesAt markLine lineOf markPart stampPart fromPart nameText stampText causesText nearestText decimal digits
+third-line = refl
+
+report-ends : lineAt 3 reportA 47 [] ≡ (End, [])
+unfolding reportA lineAt
+report-ends = refl
+
+-- a report cut short has no group there
+cut-short : lineAt 3 (0x21 ∷ 0 ∷ 1 ∷ 0 ∷ 1 ∷ 0x23 ∷ 0 ∷ 1 ∷ []) 0 [] ≡ (Bad, [])
+unfolding lineAt writtenLine markAt groupHere groupAt wholeAt stampHere countAt pastCount stampPlace stampAt causesHere causesAt
+cut-short = refl

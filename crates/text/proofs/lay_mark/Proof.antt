@@ -1,0 +1,49 @@
+-- `text::lay_mark` meets its contract: a group lies within the report, and its three parts fit the room.
+-- Assumes nothing.
+use Prim.Native.Nat.{_+_, _*_, _≤_}
+use native.Mathlib.Omega.{arith}
+use lib.ListN.{length}
+use Rattle.words.proofs.Laying.{and-then}
+use Rattle.reading.specs.Reading.{groupAt}
+use Rattle.reading.proofs.Standing.{group-within}
+use Rattle.text.specs.Text.{lineOf, markLine}
+use borrow.Author.Needs.{needs}
+use Rattle.text.proofs.lay_mark.Statement.{statement}
+use Rattle.text.proofs.lay_mark.Tie as tie
+
+-- the group lies within the report
+within : (c : tie.Start) → let a = c .args in (a .nodes ≤ 32) × (a .mark + 5 ≤ length (a .report .now)) × (a .causes + 4 * a .count ≤ length (a .report .now))
+within c = rw (c .pre .1 .0, c .pre .1 .1) (group-within _ _ _ (c .pre .0 .0))
+
+heading-requires : tie.Need-heading-requires
+heading-requires c κs = omega (arith, within (c .before .before .before))
+
+add-stamp : tie.Need-add-stamp
+add-stamp c = omega (arith, within (c .before .before .before .before .before .before))
+
+stamp-requires : tie.Need-stamp-requires
+stamp-requires c κs =
+    let s = c .before .before .before .before .before .before .before in
+    omega (arith, within s, c .before .before .before .heading .ensures .1, c .before .before .before .heading .kept .1 .1 .0, s .pre .0 .1)
+
+ending-requires : tie.Need-ending-requires
+ending-requires c κs =
+    let s = c .before .before .before .before .before .before .before .before .before .before .before in
+    let head = c .before .before .before .before .before .before .before .heading in
+    let stamped = c .before .before .before .stamp in
+    omega (arith, within s, head .ensures .1, head .kept .1 .1 .0, stamped .ensures .1, stamped .kept .1 .1 .1 .1 .0, s .pre)
+
+same-length : tie.Need-same-length
+same-length c = search needs
+
+returns : tie.Need-returns
+unfolding groupAt lineOf markLine
+returns c =
+    let s = c .before .before .before .before .before .before .before .before .before .before .before .before .before .before in
+    let last = c .before .before .ending .ensures in
+    and-then (and-then (c .before .before .before .before .before .before .before .before .before .before .heading .ensures .0) (c .before .before .before .before .before .before .stamp .ensures .0)) (rw (s .pre .1 .0, s .pre .1 .1) at last)
+
+pub lay-mark-spec : {M : Type 1} → statement M
+lay-mark-spec =
+    tie.close
+    (tie.spec heading-requires add-stamp stamp-requires ending-requires same-length returns)

@@ -1,0 +1,100 @@
+//! Order, stamps, direct predecessors and flags by their definitions, word for word.
+
+use crate::barn::{Barn, Style};
+use crate::chance::Chance;
+use crate::order::Order;
+use crate::reader::{self, Act, Log};
+use crate::report;
+
+/// For each event those before it: the closure of "directly precedes", by trying all between.
+fn closure(log: &Log) -> Vec<Vec<bool>> {
+    let events = log.events.len();
+    let mut before = vec![vec![false; events]; events];
+    for (a, event) in log.events.iter().enumerate() {
+        let same_node = |b: &usize| log.events[*b].node == event.node;
+        if let Some(next) = (a + 1..events).find(same_node) {
+            before[a][next] = true;
+        }
+    }
+    for message in &log.messages {
+        if let Some(receipt) = message.received {
+            before[message.sent][receipt] = true;
+        }
+    }
+    for between in 0..events {
+        for a in 0..events {
+            for b in 0..events {
+                before[a][b] |= before[a][between] && before[between][b];
+            }
+        }
+    }
+    before
+}
+
+fn marks_of(log: &Log, node: usize) -> Vec<usize> {
+    let is_mark = |e: &usize| log.events[*e].node == node && log.events[*e].act == Act::Mark;
+    (0..log.events.len()).filter(is_mark).collect()
+}
+
+fn all_marks(log: &Log) -> Vec<usize> {
+    (0..log.nodes)
+        .flat_map(|node| marks_of(log, node))
+        .collect()
+}
+
+fn assert_mark(log: &Log, before: &[Vec<bool>], e: usize, mark: &report::Mark) {
+    let number = |f: usize| {
+        let of_node = marks_of(log, log.events[f].node);
+        of_node.iter().filter(|mark| **mark <= f).count() as u16
+    };
+    for k in 0..log.nodes {
+        let at_or_before = |f: &&usize| **f == e || before[**f][e];
+        let stamp = marks_of(log, k).iter().filter(at_or_before).count();
+        assert_eq!(usize::from(mark.stamp[k]), stamp);
+    }
+    let marks = all_marks(log);
+    let between = |f: usize| marks.iter().any(|&g| before[f][g] && before[g][e]);
+    let direct = marks.iter().filter(|&&f| before[f][e] && !between(f));
+    let pairs: Vec<_> = direct.map(|&f| (log.events[f].node, number(f))).collect();
+    assert_eq!(mark.direct, pairs);
+    assert_eq!((mark.node, mark.number), (log.events[e].node, number(e)));
+}
+
+/// At the end of the log: a flag stands for a count above zero whose last mark, of those at or
+/// before the node's last event, is before none of them.
+fn assert_flags(log: &Log, order: &Order, before: &[Vec<bool>]) {
+    for node in 0..log.nodes {
+        let last = (0..log.events.len()).rfind(|&e| log.events[e].node == node);
+        let held = |f: &usize| last.is_some_and(|last| *f == last || before[*f][last]);
+        let marks: Vec<usize> = all_marks(log).into_iter().filter(held).collect();
+        let row = order.row(order.past_of_node(node));
+        for k in 0..log.nodes {
+            let of_k: Vec<usize> = marks_of(log, k).into_iter().filter(held).collect();
+            let flag = |f: &usize| !marks.iter().any(|&g| before[*f][g]);
+            assert_eq!(usize::from(row.counts[k]), of_k.len());
+            assert_eq!(row.flags >> k & 1 == 1, of_k.last().is_some_and(flag));
+        }
+    }
+}
+
+#[test]
+fn small_logs_by_definition() {
+    for question in 0..400 {
+        let chance = &mut Chance::of(11, question);
+        let style = Style::any(chance);
+        let barn = Barn::grown(chance, style, 36);
+        let log = reader::read(&barn.bytes()).expect("a grown log is accepted");
+        let (order, before) = (Order::of(&log), closure(&log));
+        for (f, later) in before.iter().enumerate() {
+            for (e, &is_later) in later.iter().enumerate() {
+                assert_eq!(order.past(e).has(f), f == e || is_later);
+            }
+        }
+        let is_mark = |e: &usize| log.events[*e].act == Act::Mark;
+        let places = (0..log.events.len()).filter(is_mark);
+        for (e, mark) in places.zip(report::marks(&log, &order)) {
+            assert_mark(&log, &before, e, &mark);
+        }
+        assert_flags(&log, &order, &before);
+    }
+}

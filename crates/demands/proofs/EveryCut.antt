@@ -1,8 +1,8 @@
 -- Demand 3 at every cut: an accepted log that is cut after any record is an accepted log, with an earlier cut of the events, so
 -- both runs of it are accepted too and agree, and their rooms hold the state after that cut.
 -- Assumes nothing.
-use mathlib.Core.Path.{_≡_, refl, sym, _∙_, ap, subst}
-use mathlib.Core.List.{List, [], _∷_, _++_, append-assoc}
+use mathlib.Core.Path.{_≡_, subst}
+use mathlib.Core.List.{List, _++_}
 use Prim.Native.Nat.{ℕ, _≤_}
 use native.Mathlib.Omega.{arith}
 use lib.ListN.{length, take, length-append}
@@ -15,19 +15,14 @@ use Rattle.machine.specs.Machine.{full}
 use Rattle.machine.specs.Answer.{Answer, answers}
 use Rattle.machine.proofs.Answers.{answers-grown}
 use Rattle.room.specs.declared.Mode.the-variants.{Full, Short}
-use Rattle.groups.specs.Groups.{groupOf, groupsOf}
+use Rattle.groups.proofs.GroupsSame.{groups-append}
+use Rattle.groups.specs.Groups.{groupsOf}
 use Rattle.report.specs.declared.Answer as run
 use Rattle.passes.specs.Report.{reportOf}
 use Rattle.report.specs.Run.{Ran}
 use Rattle.demands.specs.Demands.{Roomy, Completed, SameButCarried, SameArrows}
 use Rattle.demands.proofs.Refusals.{run-completes}
 use Rattle.demands.proofs.Messages.{same-arrows, same-answers}
-
--- the groups of two lists of answers, one after the other
-groups-append : (n : ℕ) (told more : List Answer) → groupsOf n (told ++ more) ≡ groupsOf n told ++ groupsOf n more
-unfolding groupsOf
-groups-append n [] more = refl
-groups-append n (a ∷ told) more = ap (λ l. groupOf n a ++ l) (groups-append n told more) ∙ sym (append-assoc (groupOf n a) (groupsOf n told) (groupsOf n more))
 
 -- the report of a cut is no longer than that of a later one
 pub report-grows : (n : ℕ) (later past : List Event) {cut : List Event} → cut ≡ later ++ past → length (reportOf n past) ≤ length (reportOf n cut)

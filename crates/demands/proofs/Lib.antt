@@ -6,7 +6,6 @@ pub mod Cases
 pub mod ListedMarks
 pub mod Arrows
 pub mod ReadBack
-pub mod SameRows
 pub mod Messages
 pub mod EveryCut
 pub mod Letters

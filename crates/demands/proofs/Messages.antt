@@ -19,6 +19,7 @@ use Rattle.room.specs.declared.Mode.{Mode}
 use Rattle.room.specs.declared.Mode.the-variants.{Full, Short}
 use Rattle.room.specs.Modes.{says}
 use Rattle.room.specs.Room.{fits}
+use Rattle.room.proofs.OneRoom.{same-counts, same-flags}
 use Rattle.room.proofs.BothModes.{mode-counts, mode-flags}
 use Rattle.report.specs.declared.Answer.{Answer}
 use Rattle.passes.specs.Report.{tallyOf}
@@ -26,7 +27,6 @@ use Rattle.report.specs.Run.{Ending, cramped, refusal, overlong, complete, endi
 use Rattle.demands.specs.Demands.{Completed, SameButCarried, SameArrows}
 use Rattle.demands.proofs.Refusals.{run-completed, report-filled}
 use Rattle.demands.proofs.Arrows.{accepted-sound}
-use Rattle.demands.proofs.SameRows.{same-rows, same-flags}
 
 -- ---- the totals
 
@@ -96,9 +96,9 @@ module _ {log : List ℕ} {n : ℕ} {cut : List Event}
   pub same-arrows : SameArrows counts′ words′ report′ counts₂′ words₂′ report₂′ r s
   same-arrows =
       let law = accepted-lawful log n cut (row-verdict log (a .accepted-is)) in
-      let flags = same-flags (a .state-held) (b .state-held) (λ i k. mode-flags Full (law .sound) i k ∙ sym (mode-flags Short (law .sound) i k)) in
+      let flags = same-flags (a .state-held .rows) (b .state-held .rows) (λ i k. mode-flags Full (law .sound) i k ∙ sym (mode-flags Short (law .sound) i k)) in
       record {
-        counts-same = same-rows (a .state-held) (b .state-held) (λ i k. mode-counts Full (law .sound) i k ∙ sym (mode-counts Short (law .sound) i k));
+        counts-same = same-counts (a .state-held .rows) (b .state-held .rows) (λ i k. mode-counts Full (law .sound) i k ∙ sym (mode-counts Short (law .sound) i k));
         flags-same = λ i h. sym (getD-take 1056 words′ i 0 (omega arith)) ∙ flags i h ∙ getD-take 1056 words₂′ i 0 (omega arith);
         report-same = report-filled a .1 ∙ sym (report-filled b .1);
       }

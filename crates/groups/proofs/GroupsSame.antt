@@ -13,13 +13,19 @@ use Rattle.machine.specs.Answer.{Answer, flagged, answer}
 use Rattle.machine.proofs.Small.{put-same, put-both}
 use Rattle.groups.specs.Groups.{stampRecord, stampRecords, groupOf, groupsOf, stampOf, rowAnswer}
 
--- ---- one more mark
+-- ---- groups one after the other
 
--- its group comes last
+-- the groups of two runs of answers
+pub groups-append : (n : ℕ) (told more : List Answer) → groupsOf n (told ++ more) ≡ groupsOf n told ++ groupsOf n more
+unfolding groupsOf
+groups-append n [] more = refl
+groups-append n (a ∷ told) more =
+    ap (λ (l : List ℕ). groupOf n a ++ l) (groups-append n told more) ∙ sym (append-assoc (groupOf n a) (groupsOf n told) (groupsOf n more))
+
+-- one more mark: its group comes last
 pub groups-more : (n : ℕ) (before : List Answer) (a : Answer) → groupsOf n (before ++ (a ∷ [])) ≡ groupsOf n before ++ groupOf n a
 unfolding groupsOf
-groups-more n [] a = append-nil (groupOf n a)
-groups-more n (b ∷ before) a = rw (groups-more n before a) (sym (append-assoc (groupOf n b) (groupsOf n before) (groupOf n a)))
+groups-more n before a = groups-append n before (a ∷ []) ∙ ap (λ (l : List ℕ). groupsOf n before ++ l) (append-nil (groupOf n a))
 
 -- ---- the same group
 

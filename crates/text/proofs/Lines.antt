@@ -1,13 +1,14 @@
 -- The line of a mark whose group stands in a report is the line of what was answered of it: each part is read back.
 -- Assumes nothing.
-use mathlib.Core.Path.{_≡_, refl, _∙_}
-use mathlib.Core.List.{List, [], _∷_, _++_, append-assoc}
+use mathlib.Core.Path.{_≡_, refl, _∙_, sym}
+use mathlib.Core.List.{List, _∷_, _++_, append-assoc}
 use Prim.Native.Nat.{ℕ, zero, suc, _+_, _≤_, _<_}
 use native.Mathlib.Omega.{arith}
 use lib.ListN.{length, getD}
 use Rattle.machine.specs.Answer.{Answer}
 use Rattle.groups.specs.Groups.{laid, groupOf, groupsOf}
 use Rattle.reading.specs.Reading.{groupAt}
+use Rattle.groups.proofs.GroupsSame.{groups-append}
 use Rattle.reading.proofs.Standing.{group-within}
 use Rattle.reading.proofs.GroupRead.{group-stands, group-tells, mark-read, groups-clear}
 use Rattle.text.specs.Text.{stampText, stampPart, lineOf, answerLine, markLine, writtenLine, lineAt}
@@ -44,8 +45,7 @@ module _ (n : ℕ) (a : Answer) (few : n ≤ 32) (before behind : List ℕ) (nex
 -- the report up to an answer, its group, and what follows
 groups-split : (n : ℕ) (done rest : List Answer) (a : Answer) → groupsOf n (done ++ a ∷ rest) ≡ groupsOf n done ++ groupOf n a ++ groupsOf n rest
 unfolding groupsOf
-groups-split n [] rest a = refl
-groups-split n (b ∷ done) rest a = rw (groups-split n done rest a) (simp append-assoc)
+groups-split n done rest a = groups-append n done (a ∷ rest) ∙ sym (append-assoc (groupsOf n done) (groupOf n a) (groupsOf n rest))
 
 -- the line of each answer is laid where its group stands, and the place of the next group is answered
 pub line-of-answer : (n : ℕ) → n ≤ 32 → (done rest : List Answer) (a : Answer) (room : List ℕ)

@@ -163,18 +163,18 @@ fn past_twenty_thousand(chance: &mut Chance) -> Vec<u8> {
 }
 
 fn star(chance: &mut Chance) -> Vec<u8> {
-    let nodes = chance.between(3, 32) as u8;
-    let style = Style {
-        partners: Partners::Star,
-        ..style(chance, nodes, [1, 1, 6, 6])
-    };
-    full(chance, style).bytes()
+    among(chance, Partners::Star)
 }
 
 fn ring(chance: &mut Chance) -> Vec<u8> {
+    among(chance, Partners::Ring)
+}
+
+/// Much talk, between such partners alone.
+fn among(chance: &mut Chance, partners: Partners) -> Vec<u8> {
     let nodes = chance.between(3, 32) as u8;
     let style = Style {
-        partners: Partners::Ring,
+        partners,
         ..style(chance, nodes, [1, 1, 6, 6])
     };
     full(chance, style).bytes()

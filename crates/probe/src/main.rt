@@ -94,10 +94,7 @@ fn answer(
 
 // Says that a frame is too large, unknown or cut short.
 fn bad_frame() -> bool {
-    io::write_all(
-        STDOUT_FILENO,
-        &[b'b', b'a', b'd', b' ', b'f', b'r', b'a', b'm', b'e', b'\n'],
-    );
+    io::write_all(STDOUT_FILENO, b"bad frame\n");
     false
 }
 
@@ -110,23 +107,23 @@ fn answer_in(
     mail: &mut [u16],
     report: &mut [u8],
 ) -> bool {
-    let size = frame::within(asked.log, log.len());
-    let got = io::read_full(STDIN_FILENO, &mut log[..size]);
-    if got < size {
+    let log_end = frame::within(asked.log, log.len());
+    let got = io::read_full(STDIN_FILENO, &mut log[..log_end]);
+    if got < log_end {
         return bad_frame();
     }
     let mode = asked.mode;
-    let a = frame::within(asked.counts, counts.len());
-    let b = frame::within(asked.words, words.len());
-    let c = frame::within(asked.mail, mail.len());
-    let d = frame::within(asked.report, report.len());
+    let counts_end = frame::within(asked.counts, counts.len());
+    let words_end = frame::within(asked.words, words.len());
+    let mail_end = frame::within(asked.mail, mail.len());
+    let report_end = frame::within(asked.report, report.len());
     answer(
         mode,
-        &log[..size],
-        &mut counts[..a],
-        &mut words[..b],
-        &mut mail[..c],
-        &mut report[..d],
+        &log[..log_end],
+        &mut counts[..counts_end],
+        &mut words[..words_end],
+        &mut mail[..mail_end],
+        &mut report[..report_end],
     );
     true
 }

@@ -35,8 +35,8 @@ unfoldable pub shownIn : ℕ → List ℕ → List Event → List ℕ
 shownIn n room [] = room
 shownIn n room (e ∷ cut) = written (length (reportOf n cut)) (groupBy n cut e) (shownIn n room cut)
 
--- The work room holds the state after the cut, the tally is the cut's, and its groups are in the report room, which was `room` at
--- first.
+-- The work room holds the state after the cut, the tally is the cut's, and the report room, which was `room` at first, has those
+-- of the cut's groups for which there was space.
 pub record Noted (mode : Mode) (n : ℕ) (cut : List Event) (room counts words mail report : List ℕ) (tally : Tally) : Type 0 where
   pub holds : Holds n (barn mode cut) counts words mail
   pub tallied : tally ≡ tallyOf mode n cut

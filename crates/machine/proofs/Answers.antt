@@ -25,7 +25,8 @@ use Rattle.machine.proofs.Describes.{Describes, Top}
 use Rattle.machine.proofs.Full.{own, faithful}
 use Rattle.machine.proofs.Listed.{flagged-in, flagged-out, flagged-ascending, ascending-same}
 
-mark-node : {n : ℕ} {es : List Event} {p k : ℕ} → Sound n es → At es p (mark k) → k < n
+-- a mark of a sound cut is at a node of the barn
+pub mark-node : {n : ℕ} {es : List Event} {p k : ℕ} → Sound n es → At es p (mark k) → k < n
 mark-node (sound-cons a h) at-head = a
 mark-node (sound-cons a h) (at-tail b) = mark-node h b
 

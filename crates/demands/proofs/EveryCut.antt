@@ -25,7 +25,7 @@ use Rattle.demands.proofs.Refusals.{run-completes}
 use Rattle.demands.proofs.Messages.{same-arrows, same-answers}
 
 -- the report of a cut is no longer than that of a later one
-pub report-grows : (n : ℕ) (later past : List Event) {cut : List Event} → cut ≡ later ++ past → length (reportOf n past) ≤ length (reportOf n cut)
+report-grows : (n : ℕ) (later past : List Event) {cut : List Event} → cut ≡ later ++ past → length (reportOf n past) ≤ length (reportOf n cut)
 unfolding reportOf
 report-grows n later past parts =
     let (rest, more) = answers-grown n full past later in

@@ -2,7 +2,7 @@ pub mod OneResult
 pub mod Endings
 pub mod Refusals
 pub mod RoomsBefore
-pub mod Cases
+pub mod Seen
 pub mod ListedMarks
 pub mod Arrows
 pub mod ReadBack

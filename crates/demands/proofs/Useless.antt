@@ -21,7 +21,7 @@ use Rattle.passes.specs.Report.{reportOf, tallyOf}
 use Rattle.report.specs.Run.{settled, ending, numberOf}
 use Rattle.demands.specs.Demands.{FirstEnds, first-ends, Input, cutAt, Given, Program, Meets}
 use Rattle.demands.proofs.Inputs.{sample, sample-given, sample-roomy}
-use Rattle.demands.proofs.Cases.{twoMarks, twoReport, seen, seen-run}
+use Rattle.demands.proofs.Seen.{twoMarks, twoReport, seen, seen-run}
 
 -- ---- the logs
 

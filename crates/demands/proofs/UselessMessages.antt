@@ -33,7 +33,7 @@ use Rattle.demands.proofs.Refusals.{run-completes}
 use Rattle.demands.proofs.Messages.{carried-only}
 use Rattle.demands.proofs.Letters.{mail-at}
 use Rattle.demands.proofs.Inputs.{allBelow, sample, sample-given, sample-roomy}
-use Rattle.demands.proofs.Cases.{seen, seen-run}
+use Rattle.demands.proofs.Seen.{seen, seen-run}
 
 -- ---- useless totals
 

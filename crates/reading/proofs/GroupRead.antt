@@ -1,39 +1,30 @@
 -- The group of a mark, as it is written, is read back: its head, its stamp, and its direct predecessors one by one.
 -- Assumes nothing.
 use mathlib.Core.Path.{_≡_, refl, sym, _∙_}
-use mathlib.Core.Option.{some}
 use mathlib.Core.Bool.{true}
 use mathlib.Core.List.{List, [], _∷_, _++_, append-assoc}
-use Prim.Native.Nat.{ℕ, _+_, _*_, _/_, _%_, _≤_, _<_}
+use Prim.Native.Nat.{ℕ, _+_, _*_, _<_}
 use native.Mathlib.Omega.{arith}
 use lib.ListN.{length, getD, length-append}
 use lib.Seq.{getD-append-add}
 use Rattle.machine.specs.Answer.{Answer}
 use Rattle.groups.specs.Groups.{fourBytes, stampRecords, causeRecords, groupOf, groupsOf}
-use Rattle.reading.specs.Reading.{wholeAt, causesHere, causesAt, causePlace, causeCount, Mark, groupHere, groupAt, markAt}
-use Rattle.reading.proofs.Standing.{group-causes}
-use Rattle.reading.proofs.StampRead.{whole-written, node-written, number-written, place-read, stamp-read}
+use Rattle.groups.proofs.GroupSizes.{group-size}
+use Rattle.groups.proofs.GroupsSame.{groups-append}
+use Rattle.reading.specs.Reading.{numberAt, wholeAt, stampHere, stampPlace, stampAt, causesAt, causePlace, causeCount}
+use Rattle.reading.proofs.StampRead.{front-byte, whole-written, node-written, number-written, place-read, stamp-read, count-some}
 
 -- ---- the direct predecessors
 
--- each stands there whole, and its node and number are read back
-causes-read : (l : List (ℕ × ℕ)) (xs tail : List ℕ)
-    → let report = xs ++ (causeRecords l ++ tail) in (causesHere report (length xs) (length l) ≡ true) × (causesAt report (length xs) (length l) ≡ l)
-unfolding causeRecords causesHere causesAt
-causes-read [] xs tail = (refl, refl)
+-- the node and the number of each are read back
+causes-read : (l : List (ℕ × ℕ)) (xs tail : List ℕ) → causesAt (xs ++ (causeRecords l ++ tail)) (length xs) (length l) ≡ l
+unfolding causeRecords causesAt
+causes-read [] xs tail = refl
 causes-read (x ∷ rest) xs tail =
     let four = fourBytes 0x23 (x .0) (x .1) in
     let behind = causeRecords rest ++ tail in
-    let ih = rw (append-assoc xs four behind, length-append xs four) at (causes-read rest (xs ++ four) tail) in (
-      rw (whole-written xs (x .0 ∷ x .1 % 256 ∷ x .1 / 256 ∷ behind) 0x23 4 (omega arith), ih .0),
-      rw (node-written xs behind 0x23 (x .0) (x .1), number-written xs behind 0x23 (x .0) (x .1), ih .1),
-    )
-
--- they take four bytes each
-causes-length : (l : List (ℕ × ℕ)) → length (causeRecords l) ≡ 4 * length l
-unfolding causeRecords
-causes-length [] = refl
-causes-length (x ∷ rest) = omega (arith, causes-length rest)
+    let others = rw (append-assoc xs four behind, length-append xs four) at (causes-read rest (xs ++ four) tail) in
+    rw (node-written xs behind 0x23 (x .0) (x .1), number-written xs behind 0x23 (x .0) (x .1), others)
 
 -- no count follows a stamp if none follows the group
 causes-clear : (l : List (ℕ × ℕ)) (behind : List ℕ) → ¬ (getD behind 0 0 ≡ 0x22) → ¬ (getD (causeRecords l ++ behind) 0 0 ≡ 0x22)
@@ -43,39 +34,30 @@ causes-clear (x ∷ rest) behind h = λ e. omega arith
 
 -- ---- the group
 
--- what is read of a mark is what was answered of it, for the nodes below n
-pub record Tells (n : ℕ) (a : Answer) (past : ℕ) (m : Mark) : Type 0 where
-  pub node-is : m .node ≡ a .node
-  pub number-is : m .number ≡ a .stamp (a .node)
-  pub stamp-is : (k : ℕ) → k < n → m .stamp k ≡ a .stamp k
-  pub nearest-is : m .nearest ≡ a .nearest
-  pub past-is : m .past ≡ past
+-- the group of an answer, with what stands before and behind it
+abbrev pub amid : List ℕ → Answer → List ℕ → List ℕ
+amid before a behind = before ++ groupOf 32 a ++ behind
 
 -- the head of a group: kind, node, number, and how many direct predecessors there are
 head : Answer → List ℕ
 head a = fourBytes 0x21 (a .node) (a .stamp (a .node)) ++ (length (a .nearest) ∷ [])
 
--- how many bytes a group has
-group-length : (n : ℕ) (a : Answer) → length (groupOf n a) ≡ 5 + length (stampRecords n (a .stamp)) + 4 * length (a .nearest)
-unfolding groupOf
-group-length n a = omega (arith, length-append (stampRecords n (a .stamp)) (causeRecords (a .nearest)), causes-length (a .nearest))
-
-module _ (n : ℕ) (a : Answer) (few : n ≤ 32) (before behind : List ℕ) (next : ¬ (getD behind 0 0 ≡ 0x22)) where
+module _ (a : Answer) (before behind : List ℕ) (next : ¬ (getD behind 0 0 ≡ 0x22)) where
   stamps : List ℕ
-  stamps = stampRecords n (a .stamp)
+  stamps = stampRecords 32 (a .stamp)
 
   causes : List ℕ
   causes = causeRecords (a .nearest)
 
   -- the report, parted behind what stands before the group, behind its head, and behind its stamp
-  at-head : before ++ groupOf n a ++ behind ≡ before ++ (head a ++ (stamps ++ (causes ++ behind)))
+  at-head : amid before a behind ≡ before ++ (head a ++ (stamps ++ (causes ++ behind)))
   unfolding groupOf head stamps causes
   at-head = simp append-assoc
 
-  at-stamp : before ++ groupOf n a ++ behind ≡ (before ++ head a) ++ (stamps ++ (causes ++ behind))
+  at-stamp : amid before a behind ≡ (before ++ head a) ++ (stamps ++ (causes ++ behind))
   at-stamp = at-head ∙ sym (append-assoc before (head a) _)
 
-  at-causes : before ++ groupOf n a ++ behind ≡ (before ++ head a ++ stamps) ++ (causes ++ behind)
+  at-causes : amid before a behind ≡ (before ++ head a ++ stamps) ++ (causes ++ behind)
   at-causes = at-stamp ∙ sym (append-assoc (before ++ head a) stamps _)
 
   -- the stamp starts five bytes on
@@ -84,39 +66,68 @@ module _ (n : ℕ) (a : Answer) (few : n ≤ 32) (before behind : List ℕ) (nex
   stamp-start = sym (length-append before (head a))
 
   -- the predecessors start behind it
-  cause-start : causePlace n (before ++ groupOf n a ++ behind) (length before) ≡ length (before ++ head a ++ stamps)
+  cause-start : causePlace (amid before a behind) (length before) ≡ length (before ++ head a ++ stamps)
   unfolding stamps causes
-  cause-start = rw (stamp-start, at-stamp) (place-read (before ++ head a) (a .stamp) n (causes ++ behind) (causes-clear (a .nearest) behind next) n (omega arith))
+  cause-start = rw (stamp-start, at-stamp) (place-read (before ++ head a) (a .stamp) 32 (causes ++ behind) (causes-clear (a .nearest) behind next) 32 (omega arith))
 
-  cause-number : causeCount (before ++ groupOf n a ++ behind) (length before) ≡ length (a .nearest)
+  cause-number : causeCount (amid before a behind) (length before) ≡ length (a .nearest)
   unfolding head
   cause-number = rw at-head (getD-append-add before (head a ++ (stamps ++ (causes ++ behind))) 4 0)
 
-  -- the group stands there
-  pub group-stands : groupHere n (before ++ groupOf n a ++ behind) (length before) ≡ true
-  unfolding head causes
-  group-stands =
-      let whole : wholeAt 0x21 5 (before ++ groupOf n a ++ behind) (length before) ≡ true = rw at-head (whole-written before _ 0x21 5 (omega arith)) in
-      group-causes n _ _ few whole ∙ rw (cause-start, cause-number, at-causes) (causes-read (a .nearest) (before ++ head a ++ stamps) behind .0)
+  -- the group's node, number, stamp and direct predecessors are those that were answered
+  pub group-node : getD (amid before a behind) (length before + 1) 0 ≡ a .node
+  unfolding head
+  group-node = rw at-head (node-written before _ 0x21 (a .node) (a .stamp (a .node)))
 
-  -- and tells what was answered
-  pub group-tells : Tells n a (length before + length (groupOf n a)) (groupAt n (before ++ groupOf n a ++ behind) (length before))
-  unfolding groupAt head causes stamps
-  group-tells =
-      record {
-        node-is = rw at-head (node-written before _ 0x21 (a .node) (a .stamp (a .node)));
-        number-is = rw at-head (number-written before _ 0x21 (a .node) (a .stamp (a .node)));
-        stamp-is = λ k h. rw (stamp-start, at-stamp) (stamp-read (before ++ head a) (a .stamp) n (causes ++ behind) (causes-clear (a .nearest) behind next) k h);
-        nearest-is = rw (cause-start, cause-number, at-causes) (causes-read (a .nearest) (before ++ head a ++ stamps) behind .1);
-        past-is = rw (cause-start, cause-number) (omega (arith, length-append (before ++ head a) stamps, length-append before (head a), group-length n a));
-      }
+  pub group-number : numberAt (amid before a behind) (length before + 2) ≡ a .stamp (a .node)
+  unfolding head
+  group-number = rw at-head (number-written before _ 0x21 (a .node) (a .stamp (a .node)))
 
-  pub mark-read : markAt n (before ++ groupOf n a ++ behind) (length before) ≡ some (groupAt n (before ++ groupOf n a ++ behind) (length before))
-  unfolding markAt
-  mark-read = rw group-stands
+  pub group-stamp : (k : ℕ) → k < 32 → stampAt (amid before a behind) (length before + 5) k ≡ a .stamp k
+  unfolding stamps causes
+  group-stamp k h = rw (stamp-start, at-stamp) (stamp-read (before ++ head a) (a .stamp) 32 (causes ++ behind) (causes-clear (a .nearest) behind next) k h)
+
+  pub group-nearest : let report = amid before a behind in let p = length before in causesAt report (causePlace report p) (causeCount report p) ≡ a .nearest
+  unfolding causes
+  group-nearest = rw (cause-start, cause-number, at-causes) (causes-read (a .nearest) (before ++ head a ++ stamps) behind)
+
+  -- it ends behind its bytes
+  pub group-ends : let report = amid before a behind in let p = length before in causePlace report p + 4 * causeCount report p ≡ p + length (groupOf 32 a)
+  unfolding head stamps
+  group-ends = rw (cause-start, cause-number) (omega (arith, length-append (before ++ head a) stamps, length-append before (head a), group-size 32 a))
+
+  -- its head is whole
+  pub head-whole : wholeAt 0x21 5 (amid before a behind) (length before) ≡ true
+  unfolding head
+  head-whole = rw at-head (whole-written before _ 0x21 5 (omega arith))
+
+  -- the counts that stand in its stamp are not 0, and none follows them
+  pub stamp-some : let report = amid before a behind in
+      (k : ℕ) → k < 32 → stampHere report (stampPlace report (length before + 5) k) k ≡ true → 0 < a .stamp k
+  unfolding causes stamps
+  stamp-some k h =
+      rw (stamp-start, at-stamp) (count-some (before ++ head a) (a .stamp) 32 (causes ++ behind) (causes-clear (a .nearest) behind next) k h)
+
+  pub stamp-ended : let report = amid before a behind in ¬ (getD report (causePlace report (length before)) 0 ≡ 0x22)
+  unfolding causes
+  stamp-ended = rw (cause-start, at-causes, front-byte (before ++ head a ++ stamps) (causes ++ behind)) (causes-clear (a .nearest) behind next)
+
+  -- its direct predecessors stand behind its stamp, as many as announced
+  pub causes-stand : let report = amid before a behind in
+      (xs : List ℕ) × (report ≡ xs ++ (causeRecords (a .nearest) ++ behind))
+      × (causePlace report (length before) ≡ length xs) × (causeCount report (length before) ≡ length (a .nearest))
+  unfolding causes
+  causes-stand = (before ++ head a ++ stamps, at-causes, cause-start, cause-number)
+
+-- ---- in a report of answers
+
+-- the report up to an answer, its group, and what follows
+pub groups-amid : (done rest : List Answer) (a : Answer) → groupsOf 32 (done ++ (a ∷ rest)) ≡ amid (groupsOf 32 done) a (groupsOf 32 rest)
+unfolding groupsOf
+groups-amid done rest a = groups-append 32 done (a ∷ rest) ∙ sym (append-assoc (groupsOf 32 done) (groupOf 32 a) (groupsOf 32 rest))
 
 -- no count follows a group where other groups follow
-pub groups-clear : (n : ℕ) (l : List Answer) → ¬ (getD (groupsOf n l) 0 0 ≡ 0x22)
+pub groups-clear : (l : List Answer) → ¬ (getD (groupsOf 32 l) 0 0 ≡ 0x22)
 unfolding groupsOf groupOf
-groups-clear n [] = λ e. omega arith
-groups-clear n (a ∷ rest) = λ e. omega arith
+groups-clear [] = λ e. omega arith
+groups-clear (a ∷ rest) = λ e. omega arith

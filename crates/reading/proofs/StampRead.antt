@@ -3,7 +3,7 @@
 -- Assumes nothing.
 use mathlib.Core.Path.{_≡_, refl, sym, ap, _∙_}
 use mathlib.Core.Logic.{_⊎_, inl, inr}
-use mathlib.Core.Bool.{Bool, true, false, _&&_}
+use mathlib.Core.Bool.{true, false, and-false}
 use mathlib.Core.List.{List, [], _∷_, _++_, append-assoc, append-nil}
 use Prim.Native.Nat.{ℕ, zero, suc, _+_, _-_, _/_, _%_, _≤_, _<_}
 use native.Mathlib.Nat.{add-zero}
@@ -15,13 +15,8 @@ use Rattle.groups.specs.Groups.{fourBytes, stampRecord, stampRecords}
 use Rattle.reading.specs.Reading.{numberAt, wholeAt, stampHere, countAt, pastCount, stampPlace, stampAt}
 use Rattle.reading.proofs.Standing.{count-there, count-missing, past-there, past-missing}
 
--- a test that fails decides
-right-false : (b : Bool) → b && false ≡ false
-right-false true = refl
-right-false false = refl
-
 -- the first byte of what stands behind
-front-byte : (xs ys : List ℕ) → getD (xs ++ ys) (length xs) 0 ≡ getD ys 0 0
+pub front-byte : (xs ys : List ℕ) → getD (xs ++ ys) (length xs) 0 ≡ getD ys 0 0
 front-byte xs ys = ap (λ (i : ℕ). getD (xs ++ ys) i 0) (sym (add-zero (length xs))) ∙ getD-append-add xs ys 0 0
 
 -- ---- where a record stands
@@ -44,13 +39,13 @@ module _ (xs ys : List ℕ) (kind k c : ℕ) where
       rw (three, getD-append-add xs (fourBytes kind k c ++ ys) 2 0, getD-append-add xs (fourBytes kind k c ++ ys) 3 0) (omega arith)
 
 -- no count of node k begins these bytes
-abbrev pub Clear : ℕ → List ℕ → Type 0
+abbrev Clear : ℕ → List ℕ → Type 0
 Clear k ys = (¬ (getD ys 0 0 ≡ 0x22)) ⊎ (¬ (getD ys 1 0 ≡ k))
 
 clear-missing : (xs ys : List ℕ) (k : ℕ) → Clear k ys → stampHere (xs ++ ys) (length xs) k ≡ false
 unfolding stampHere wholeAt
-clear-missing xs ys k (inl h) = rw (front-byte xs ys, ne-eqb _ _ h, right-false)
-clear-missing xs ys k (inr h) = rw (getD-append-add xs ys 1 0, ne-eqb _ _ h, right-false)
+clear-missing xs ys k (inl h) = rw (front-byte xs ys, ne-eqb _ _ h, and-false)
+clear-missing xs ys k (inr h) = rw (getD-append-add xs ys 1 0, ne-eqb _ _ h, and-false)
 
 -- a count that was written stands there
 count-stands : (xs ys : List ℕ) (k c : ℕ) → stampHere (xs ++ (fourBytes 0x22 k c ++ ys)) (length xs) k ≡ true
@@ -61,7 +56,7 @@ count-stands xs ys k c =
 -- ---- one node's count
 
 -- it is read back, and the place moves on by its bytes, where no count of the node follows one that is 0
-pub count-read : (xs ys : List ℕ) (k c : ℕ) → Clear k ys
+count-read : (xs ys : List ℕ) (k c : ℕ) → Clear k ys
     → let report = xs ++ (stampRecord k c ++ ys) in (countAt report (length xs) k ≡ c) × (pastCount report (length xs) k ≡ length (xs ++ stampRecord k c))
 unfolding stampRecord
 count-read xs ys k zero clear =
@@ -70,6 +65,12 @@ count-read xs ys k zero clear =
 count-read xs ys k (suc c) clear =
     let stands = count-stands xs ys k (suc c) in
     (count-there _ _ k stands ∙ number-written xs ys 0x22 k (suc c), past-there _ _ k stands ∙ sym (length-append xs (fourBytes 0x22 k (suc c))))
+
+-- a count that has bytes is not 0
+record-some : (k c : ℕ) → length (stampRecord k c) ≡ 4 → 0 < c
+unfolding stampRecord
+record-some k zero e = absurd (omega arith)
+record-some k (suc c) e = omega arith
 
 -- ---- the stamp
 
@@ -122,3 +123,10 @@ module _ (xs : List ℕ) (stamp : ℕ → ℕ) (n : ℕ) (tail : List ℕ) (next
   pub stamp-read : (k : ℕ) → k < n → stampAt (xs ++ (stampRecords n stamp ++ tail)) (length xs) k ≡ stamp k
   unfolding stampAt
   stamp-read k h = rw (place-read k (omega arith)) (step k h .0)
+
+  -- a count that stands there is not 0
+  pub count-some : (k : ℕ) → k < n
+      → let report = xs ++ (stampRecords n stamp ++ tail) in stampHere report (stampPlace report (length xs) k) k ≡ true → 0 < stamp k
+  count-some k h e =
+      let past = past-there _ _ k (rw (place-read k (omega arith)) at e) in
+      record-some k (stamp k) (omega (arith, step k h .1, length-append (xs ++ stampRecords k stamp) (stampRecord k (stamp k))))

@@ -1,20 +1,22 @@
--- What stands at a place of a report, test by test: a whole record lies within the report, and so each place reached does.
+-- What stands at a place of a report, test by test: a whole record lies within the report, so each place reached does, and none
+-- lies before the one it was reached from.
 -- Assumes nothing.
 use mathlib.Core.Path.{_≡_, refl}
-use mathlib.Core.Bool.{Bool, true, false, cond, _&&_}
+use mathlib.Core.Logic.{_⊎_, inl, inr}
+use mathlib.Core.Bool.{Bool, true, false, cond, _&&_, and-eq-true-iff}
 use mathlib.Core.List.{List}
-use Prim.Native.Nat.{ℕ, zero, suc, _+_, _-_, _*_, _≤_, _<_}
+use Prim.Native.Nat.{ℕ, zero, suc, _+_, _-_, _≤_, _<_}
+use native.Mathlib.Nat.{eq-or-lt-of-le}
 use native.Mathlib.Numerals.{add-one}
 use native.Mathlib.Omega.{arith}
-use lib.Dec.{eqb}
+use lib.Dec.{eqb, leb}
 use lib.ListN.{length, getD}
-use borrow.Author.Tests.{le-leb, lt-leb, leb-true}
-use Rattle.reading.specs.Reading.{numberAt, wholeAt, stampHere, countAt, pastCount, stampPlace, causesHere, causePlace, causeCount, groupHere}
+use borrow.Author.Tests.{le-leb, lt-leb, leb-true, eqb-true}
+use Rattle.reading.specs.Reading.{numberAt, wholeAt, stampHere, countAt, pastCount, stampPlace, stampAt}
 
 -- both tests hold where their conjunction does
 pub both : (a b : Bool) → a && b ≡ true → (a ≡ true) × (b ≡ true)
-both true b e = (refl, e)
-both false b e = let z : _≡_ {A = ℕ} 0 1 = cc in absurd (omega arith)
+both a b = and-eq-true-iff a b .0
 
 module _ (report : List ℕ) (p : ℕ) where
   -- ---- a whole record
@@ -31,6 +33,11 @@ module _ (report : List ℕ) (p : ℕ) where
   unfolding wholeAt
   whole-fits kind size e = leb-true _ _ (both _ _ e .0)
 
+  -- it begins with its kind
+  pub whole-begins : (kind size : ℕ) → wholeAt kind size report p ≡ true → getD report p 0 ≡ kind
+  unfolding wholeAt
+  whole-begins kind size e = eqb-true _ _ (both (leb (p + size) (length report)) _ e .1)
+
   -- ---- a count
 
   pub stamp-none : (k : ℕ) → wholeAt 0x22 4 report p ≡ false → stampHere report p k ≡ false
@@ -41,9 +48,13 @@ module _ (report : List ℕ) (p : ℕ) where
   unfolding stampHere
   stamp-node k e = rw e
 
-  pub stamp-fits : (k : ℕ) → stampHere report p k ≡ true → p + 4 ≤ length report
+  -- one that stands there is a whole record of its node
+  pub stamp-there : (k : ℕ) → stampHere report p k ≡ true → (wholeAt 0x22 4 report p ≡ true) × (getD report (p + 1) 0 ≡ k)
   unfolding stampHere
-  stamp-fits k e = whole-fits 0x22 4 (both _ _ e .0)
+  stamp-there k e = let (whole, node) = both _ _ e in (whole, eqb-true _ _ node)
+
+  pub stamp-fits : (k : ℕ) → stampHere report p k ≡ true → p + 4 ≤ length report
+  stamp-fits k e = whole-fits 0x22 4 (stamp-there k e .0)
 
   pub count-there : (k : ℕ) → stampHere report p k ≡ true → countAt report p k ≡ numberAt report (p + 2)
   unfolding countAt
@@ -69,6 +80,23 @@ module _ (report : List ℕ) (p : ℕ) where
       go true e = stamp-fits k e
       go false e = h
 
+  -- the place past a count does not lie before it
+  past-on : (k : ℕ) → p ≤ pastCount report p k
+  unfolding pastCount
+  past-on k = go (stampHere report p k)
+    where
+      go : (b : Bool) → p ≤ cond b (p + 4) p
+      go true = omega arith
+      go false = omega arith
+
+  -- a count above 0 stands there, and takes four bytes
+  count-takes : (k : ℕ) → 0 < countAt report p k → pastCount report p k ≡ p + 4
+  count-takes k h = go _ refl
+    where
+      go : (b : Bool) → stampHere report p k ≡ b → pastCount report p k ≡ p + 4
+      go true e = past-there k e
+      go false e = absurd (omega (arith, count-missing k e))
+
 -- the place past no counts, and past one more
 pub place-none : (report : List ℕ) (p : ℕ) → p ≡ stampPlace report p 0
 unfolding stampPlace
@@ -84,54 +112,18 @@ unfolding stampPlace
 stamp-inside report p zero h = h
 stamp-inside report p (suc k) h = past-inside report (stampPlace report p k) k (stamp-inside report p k h)
 
--- ---- the direct predecessors
+-- and not before the stamp's start
+place-on : (report : List ℕ) (p k : ℕ) → p ≤ stampPlace report p k
+unfolding stampPlace
+place-on report p zero = omega arith
+place-on report p (suc k) = omega (arith, place-on report p k, past-on report (stampPlace report p k) k)
 
-pub causes-fit : (report : List ℕ) (p d : ℕ) → p ≤ length report → causesHere report p d ≡ true → p + 4 * d ≤ length report
-unfolding causesHere
-causes-fit report p zero h e = omega arith
-causes-fit report p (suc d) h e =
-    let (first, rest) = both _ _ e in
-    let k = whole-fits report p 0x23 4 first in
-    let r = causes-fit report (p + 4) d k rest in
-    omega arith
-
--- none are always there
-pub causes-none : (report : List ℕ) (p : ℕ) → causesHere report p 0 ≡ true
-unfolding causesHere
-causes-none report p = refl
-
--- one that is missing decides
-pub causes-stop : (report : List ℕ) (p d : ℕ) → 0 < d → wholeAt 0x23 4 report p ≡ false → causesHere report p d ≡ false
-unfolding causesHere
-causes-stop report p zero h e = absurd (omega arith)
-causes-stop report p (suc d) h e = rw e
-
--- one that is there leaves the question to those behind it
-pub causes-next : (report : List ℕ) (p d : ℕ) → 0 < d → wholeAt 0x23 4 report p ≡ true → causesHere report p d ≡ causesHere report (p + 4) (d - 1)
-unfolding causesHere
-causes-next report p zero h e = absurd (omega arith)
-causes-next report p (suc d) h e = let one : suc d - 1 ≡ d = omega arith in rw (e, one)
-
--- ---- the group
-
-module _ (n : ℕ) (report : List ℕ) (p : ℕ) where
-  pub group-many : 32 < n → groupHere n report p ≡ false
-  unfolding groupHere
-  group-many h = rw (lt-leb n 32 h)
-
-  pub group-headless : n ≤ 32 → wholeAt 0x21 5 report p ≡ false → groupHere n report p ≡ false
-  unfolding groupHere
-  group-headless h e = rw (le-leb n 32 h, e)
-
-  pub group-causes : n ≤ 32 → wholeAt 0x21 5 report p ≡ true → groupHere n report p ≡ causesHere report (causePlace n report p) (causeCount report p)
-  unfolding groupHere
-  group-causes h e = rw (le-leb n 32 h, e)
-
-  -- a group that stands there lies within the report
-  pub group-within : groupHere n report p ≡ true → (n ≤ 32) × (p + 5 ≤ length report) × (causePlace n report p + 4 * causeCount report p ≤ length report)
-  unfolding groupHere
-  group-within e =
-      let (front, causes) = both _ _ e in
-      let (few, head) = both _ _ front in
-      let inside = whole-fits report p 0x21 5 head in
-      (leb-true _ _ few, inside, causes-fit report (causePlace n report p) (causeCount report p) (stamp-inside report (p + 5) n inside) causes)
+-- a stamp with a count above 0 of a node below n has four bytes or more
+pub stamp-takes : (report : List ℕ) (p k n : ℕ) → 0 < stampAt report p k → k < n → p + 4 ≤ stampPlace report p n
+unfolding stampPlace stampAt
+stamp-takes report p k zero h l = absurd (omega arith)
+stamp-takes report p k (suc n) h l = go (λ m. stamp-takes report p k n h m) (eq-or-lt-of-le (omega arith))
+  where
+    go : (k < n → p + 4 ≤ stampPlace report p n) → (k ≡ n) ⊎ (k < n) → p + 4 ≤ pastCount report (stampPlace report p n) n
+    go earlier (inl e) = rw (← e) (omega (arith, place-on report p k, count-takes report (stampPlace report p k) k h))
+    go earlier (inr m) = omega (arith, earlier m, past-on report (stampPlace report p n) n)

@@ -1,26 +1,11 @@
-// The reader of a report: what group stands at a place, part by part. Every function takes any bytes.
+// The reader of a report, record by record: what stands at a place. Every function takes any bytes.
 ghost use mathlib.Core.Path.{_≡_};
 ghost use Prim.Native.Nat.{_+_, _≤_, _<_};
 ghost use lib.ListN.{length};
-ghost use Rattle.reading.specs.Reading.{numberAt, wholeAt, stampHere, countAt, pastCount, stampPlace, causesHere, groupHere};
-
-// Whether a group stands at a place of the report.
-pub fn group_here(report: &[u8], at: usize, nodes: usize) -> bool
-    requires { ⌜ at ≤ length (now report) ⌝ }
-    ensures { λ r. ⌜ r ≡ groupHere nodes (now (report .entry)) at ⌝ }
-{
-    if 32 < nodes {
-        return false;
-    }
-    if !whole(0x21, 5, report, at) {
-        return false;
-    }
-    let causes = past_stamp(report, at + 5, nodes);
-    causes_here(report, causes, report[at + 4] as usize)
-}
+ghost use Rattle.reading.specs.Reading.{numberAt, wholeAt, stampHere, countAt, pastCount};
 
 // Whether a whole record of this kind and so many bytes stands at a place.
-fn whole(kind: u8, size: usize, report: &[u8], at: usize) -> bool
+pub fn whole(kind: u8, size: usize, report: &[u8], at: usize) -> bool
     requires { ⌜ (at ≤ length (now report)) × (0 < size) ⌝ }
     ensures { λ r. ⌜ r ≡ wholeAt kind size (now (report .entry)) at ⌝ }
 {
@@ -71,35 +56,4 @@ pub fn past_count(report: &[u8], at: usize, node: usize) -> usize
         return at + 4;
     }
     at
-}
-
-// The place past a stamp.
-pub fn past_stamp(report: &[u8], at: usize, nodes: usize) -> usize
-    requires { ⌜ at ≤ length (now report) ⌝ }
-    ensures { λ r. ⌜ r ≡ stampPlace (now (report .entry)) at nodes ⌝ }
-{
-    let mut place = at;
-    let mut k: usize = 0;
-    while k < nodes {
-        place = past_count(report, place, k);
-        k += 1;
-    }
-    place
-}
-
-// Whether so many direct predecessors stand at a place, one behind the other.
-fn causes_here(report: &[u8], at: usize, count: usize) -> bool
-    requires { ⌜ at ≤ length (now report) ⌝ }
-    ensures { λ r. ⌜ r ≡ causesHere (now (report .entry)) at count ⌝ }
-{
-    let mut place = at;
-    let mut left = count;
-    while 0 < left {
-        if !whole(0x23, 4, report, place) {
-            return false;
-        }
-        place += 4;
-        left -= 1;
-    }
-    true
 }

@@ -1,16 +1,18 @@
 -- The answer to writing the line of a mark, case by case: the tests of its definition decided.
 -- Assumes nothing.
 use mathlib.Core.Path.{_≡_, _∙_}
-use mathlib.Core.Bool.{true, false}
+use mathlib.Core.Bool.{true, false, and-false}
 use mathlib.Core.List.{List}
-use Prim.Native.Nat.{ℕ, _+_, _*_, _≤_, _<_}
+use Prim.Native.Nat.{ℕ, _≤_, _<_}
 use native.Mathlib.Nat.{zero-add}
 use native.Mathlib.Omega.{arith}
 use lib.ListN.{length}
 use borrow.Author.Tests.{le-leb, lt-leb}
 use Rattle.words.specs.Words.{Laid}
-use Rattle.reading.specs.Reading.{causePlace, causeCount, groupHere, groupAt, markAt}
-use Rattle.text.specs.Text.{markLine, writtenLine, lineAt}
+use Rattle.reading.specs.Reading.{answerAt}
+use Rattle.shape.specs.Shape.{groupFits, pastGroup}
+use Rattle.shape.proofs.FittingGroup.{group-inside}
+use Rattle.text.specs.Text.{answerLine, writtenLine, lineAt}
 use Rattle.text.specs.declared.Line.the-variants.{Written, End, Bad}
 
 -- the other answers are no line
@@ -21,20 +23,31 @@ pub unwritten-bad : {A : Type 0} {size past : ℕ} → Bad ≡ Written size past
 unwritten-bad e = absurd (let z : _≡_ {A = ℕ} 0 1 = cc in omega arith)
 
 module _ (n : ℕ) (report : List ℕ) (p : ℕ) (room : List ℕ) where
+  -- no byte stands there
   pub line-end : length report ≤ p → lineAt n report p room ≡ (End, room)
   unfolding lineAt
   line-end h = rw (le-leb _ _ h)
 
-  -- where a byte stands, the group there decides
-  pub line-there : p < length report → lineAt n report p room ≡ writtenLine n room (markAt n report p)
+  -- what stands there breaks a rule
+  pub line-broken : p < length report → groupFits report p ≡ false → lineAt n report p room ≡ (Bad, room)
   unfolding lineAt
-  line-there h = rw (lt-leb _ _ h)
+  line-broken h e = rw (lt-leb _ _ h, e, and-false)
 
-  pub line-bad : p < length report → groupHere n report p ≡ false → lineAt n report p room ≡ (Bad, room)
-  unfolding writtenLine markAt
-  line-bad h e = line-there h ∙ rw e
+  -- there are too many nodes
+  pub line-many : p < length report → 32 < n → lineAt n report p room ≡ (Bad, room)
+  unfolding lineAt
+  line-many h l = rw (lt-leb _ _ h, lt-leb _ _ l)
 
-  pub line-written : p < length report → groupHere n report p ≡ true → (q size : ℕ) (room′ : List ℕ) → q ≡ causePlace n report p
-      → Laid 0 (markLine n (groupAt n report p)) room room′ size → lineAt n report p room ≡ (Written size (q + 4 * causeCount report p), room′)
-  unfolding writtenLine markAt groupAt
-  line-written h e q size room′ r l = let full = l .past-is ∙ zero-add _ in line-there h ∙ rw (e, r, full, l .room-is)
+  -- a group that fits stands there
+  pub line-there : n ≤ 32 → groupFits report p ≡ true → lineAt n report p room ≡ writtenLine (answerLine n (answerAt report p)) (pastGroup report p) room
+  unfolding lineAt
+  line-there h e =
+      let (long, inside) = group-inside report p e in
+      let there : p < length report = omega arith in
+      rw (lt-leb _ _ there, le-leb _ _ h, e)
+
+  -- and its line is laid
+  pub line-written : n ≤ 32 → groupFits report p ≡ true → (size : ℕ) (room′ : List ℕ)
+      → Laid 0 (answerLine n (answerAt report p)) room room′ size → lineAt n report p room ≡ (Written size (pastGroup report p), room′)
+  unfolding writtenLine
+  line-written h e size room′ l = let full = l .past-is ∙ zero-add _ in line-there h e ∙ rw (full, l .room-is)

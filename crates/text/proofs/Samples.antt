@@ -4,8 +4,9 @@ use mathlib.Core.Path.{_≡_, refl}
 use mathlib.Core.List.{List, [], _∷_}
 use Prim.Native.Nat.{ℕ}
 use Rattle.words.specs.Words.{digits, decimal}
-use Rattle.reading.specs.Reading.{wholeAt, stampHere, countAt, pastCount, stampPlace, stampAt, causesHere, causesAt, groupHere, groupAt, markAt}
-use Rattle.text.specs.Text.{nameText, stampText, causesText, nearestText, markPart, stampPart, fromPart, lineOf, markLine, writtenLine, lineAt}
+use Rattle.reading.specs.Reading.{wholeAt, stampHere, countAt, pastCount, stampPlace, stampAt, causesAt, answerAt}
+use Rattle.shape.specs.Shape.{inRange, entryFits, stampFits, stampEnds, causesFit, markHere, markFits, headFits, stampKept, causesKept, groupFits, pastGroup}
+use Rattle.text.specs.Text.{nameText, stampText, causesText, nearestText, markPart, stampPart, fromPart, lineOf, writtenLine, lineAt}
 use Rattle.text.specs.declared.Line.the-variants.{Written, End, Bad}
 
 -- ---- numbers
@@ -35,7 +36,7 @@ firstText =
     ∷ 32 ∷ 102 ∷ 114 ∷ 111 ∷ 109 ∷ 32 ∷ 45 ∷ 10 ∷ []
 
 first-line : lineAt 3 reportA 0 [] ≡ (Written 28 9, firstText)
-unfolding reportA firstText lineAt writtenLine markAt groupHere groupAt wholeAt stampHere countAt pastCount stampPlace stampAt causesHere causesAt markLine lineOf markPart stampPart fromPart nameText stampText causesText nearestText decimal digits
+unfolding reportA firstText lineAt writtenLine groupFits headFits markFits markHere stampKept causesKept causesFit stampFits stampEnds entryFits inRange pastGroup answerAt wholeAt stampHere countAt pastCount stampPlace stampAt causesAt lineOf markPart stampPart fromPart nameText stampText causesText nearestText decimal digits
 first-line = refl
 
 -- `mark 1.1 stamp 1 1 0 from 0.1`
@@ -46,7 +47,7 @@ secondText =
     ∷ 32 ∷ 102 ∷ 114 ∷ 111 ∷ 109 ∷ 32 ∷ 48 ∷ 46 ∷ 49 ∷ 10 ∷ []
 
 second-line : lineAt 3 reportA 9 [] ≡ (Written 30 26, secondText)
-unfolding reportA secondText lineAt writtenLine markAt groupHere groupAt wholeAt stampHere countAt pastCount stampPlace stampAt causesHere causesAt markLine lineOf markPart stampPart fromPart nameText stampText causesText nearestText decimal digits
+unfolding reportA secondText lineAt writtenLine groupFits headFits markFits markHere stampKept causesKept causesFit stampFits stampEnds entryFits inRange pastGroup answerAt wholeAt stampHere countAt pastCount stampPlace stampAt causesAt lineOf markPart stampPart fromPart nameText stampText causesText nearestText decimal digits
 second-line = refl
 
 -- `mark 2.1 stamp 1 1 1 from 1.1`
@@ -57,14 +58,21 @@ thirdText =
     ∷ 32 ∷ 102 ∷ 114 ∷ 111 ∷ 109 ∷ 32 ∷ 49 ∷ 46 ∷ 49 ∷ 10 ∷ []
 
 third-line : lineAt 3 reportA 26 [] ≡ (Written 30 47, thirdText)
-unfolding reportA thirdText lineAt writtenLine markAt groupHere groupAt wholeAt stampHere countAt pastCount stampPlace stampAt causesHere causesAt markLine lineOf markPart stampPart fromPart nameText stampText causesText nearestText decimal digits
+unfolding reportA thirdText lineAt writtenLine groupFits headFits markFits markHere stampKept causesKept causesFit stampFits stampEnds entryFits inRange pastGroup answerAt wholeAt stampHere countAt pastCount stampPlace stampAt causesAt lineOf markPart stampPart fromPart nameText stampText causesText nearestText decimal digits
 third-line = refl
 
 report-ends : lineAt 3 reportA 47 [] ≡ (End, [])
 unfolding reportA lineAt
 report-ends = refl
 
--- a report cut short has no group there
-cut-short : lineAt 3 (0x21 ∷ 0 ∷ 1 ∷ 0 ∷ 1 ∷ 0x23 ∷ 0 ∷ 1 ∷ []) 0 [] ≡ (Bad, [])
-unfolding lineAt writtenLine markAt groupHere groupAt wholeAt stampHere countAt pastCount stampPlace stampAt causesHere causesAt
+-- ---- no line
+
+-- a group that is cut short
+cut-short : lineAt 3 (0x21 ∷ 0 ∷ 1 ∷ 0 ∷ 1 ∷ 0x22 ∷ 0 ∷ 1 ∷ 0 ∷ 0x23 ∷ 0 ∷ 1 ∷ []) 0 [] ≡ (Bad, [])
+unfolding lineAt groupFits headFits markFits markHere stampKept causesKept causesFit stampFits stampEnds entryFits inRange wholeAt stampHere countAt pastCount stampPlace stampAt
 cut-short = refl
+
+-- one without the mark's own count
+unstamped : lineAt 3 (0x21 ∷ 0 ∷ 1 ∷ 0 ∷ 0 ∷ []) 0 [] ≡ (Bad, [])
+unfolding lineAt groupFits headFits markFits markHere stampKept causesKept causesFit stampFits stampEnds inRange wholeAt stampHere countAt pastCount stampPlace stampAt
+unstamped = refl

@@ -1,8 +1,7 @@
 -- The program's text: a line for each mark of a report (01, "Logs to try"). A word stands as the
 -- codes of its letters.
 -- Assumes nothing.
-use mathlib.Core.Bool.{cond}
-use mathlib.Core.Option.{Option, none, some}
+use mathlib.Core.Bool.{cond, _&&_}
 use mathlib.Core.List.{List, [], _∷_, _++_}
 use Prim.Native.Nat.{ℕ, zero, suc}
 use lib.Dec.{leb}
@@ -10,7 +9,8 @@ use lib.ListN.{length}
 use Rattle.machine.specs.Answer.{Answer}
 use Rattle.groups.specs.Groups.{laid}
 use Rattle.words.specs.Words.{decimal}
-use Rattle.reading.specs.Reading.{Mark, markAt}
+use Rattle.reading.specs.Reading.{answerAt}
+use Rattle.shape.specs.Shape.{groupFits, pastGroup}
 use Rattle.text.specs.declared.Line.{Line}
 use Rattle.text.specs.declared.Line.the-variants.{Written, End, Bad}
 
@@ -57,15 +57,13 @@ answerLine n a = lineOf n (a .node) (a .stamp (a .node)) (a .stamp) (a .nearest)
 
 -- ---- from the report to the lines
 
--- the line of a mark as its group gives it
-unfoldable pub markLine : ℕ → Mark → List ℕ
-markLine n m = lineOf n (m .node) (m .number) (m .stamp) (m .nearest)
+-- the answer and the room where this line, of a group that ends at this place, lies over the room's front
+unfoldable pub writtenLine : List ℕ → ℕ → List ℕ → Line × List ℕ
+writtenLine line past room = (Written (length line) past, laid 0 line room)
 
--- the answer and the room where this group, or none, stands in the report
-unfoldable pub writtenLine : ℕ → List ℕ → Option Mark → Line × List ℕ
-writtenLine n room none = (Bad, room)
-writtenLine n room (some m) = (Written (length (markLine n m)) (m .past), laid 0 (markLine n m) room)
-
--- the answer and the room at place p of a report: a line lies over the room's front, or the room is as it was
+-- The answer and the room at place p of a report. Where no group stands that keeps the rules, and for more than 32 nodes, the room
+-- is as it was.
 unfoldable pub lineAt : ℕ → List ℕ → ℕ → List ℕ → Line × List ℕ
-lineAt n report p room = cond (leb (length report) p) (End, room) (writtenLine n room (markAt n report p))
+lineAt n report p room =
+    cond (leb (length report) p) (End, room)
+    (cond (leb n 32 && groupFits report p) (writtenLine (answerLine n (answerAt report p)) (pastGroup report p) room) (Bad, room))

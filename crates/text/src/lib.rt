@@ -1,13 +1,15 @@
 // The program's text: a line for each mark of a report.
+use shape::Group;
 ghost use mathlib.Core.Path.{_≡_};
 ghost use mathlib.Core.Bool.{true};
 ghost use mathlib.Core.List.{_∷_};
 ghost use Prim.Native.Nat.{ℕ, _+_, _*_, _≤_, _<_};
 ghost use lib.ListN.{length, getD};
 ghost use Rattle.words.specs.Words.{decimal, Laid};
-ghost use Rattle.reading.specs.Reading.{numberAt, stampAt, causesAt, causePlace, causeCount, groupHere, groupAt};
+ghost use Rattle.reading.specs.Reading.{numberAt, stampAt, causesAt, causePlace, causeCount, answerAt};
+ghost use Rattle.shape.specs.Shape.{groupFits};
 ghost use Rattle.text.specs.declared.Line.the-variants.{Written};
-ghost use Rattle.text.specs.Text.{nameText, stampText, causesText, nearestText, markPart, stampPart, fromPart, markLine, lineAt};
+ghost use Rattle.text.specs.Text.{nameText, stampText, causesText, nearestText, markPart, stampPart, fromPart, answerLine, lineAt};
 
 // The answer to writing the line of a mark.
 pub enum Line {
@@ -15,7 +17,7 @@ pub enum Line {
     Written(usize, usize),
     // The report ends at or before the place.
     End,
-    // No group stands at the place.
+    // No group that keeps the rules stands at the place, or the nodes are more than 32.
     Bad,
 }
 
@@ -24,16 +26,19 @@ pub fn mark_line(report: &[u8], at: usize, nodes: usize, room: &mut [u8; 4096]) 
     ensures { λ r. ⌜ (r, now (room .exit)) ≡ lineAt nodes (now (report .entry)) at (now (room .entry)) ⌝ }
     ensures { λ r. ⌜ ((size past : ℕ) → r ≡ Written size past → 4096 ≡ length (now (room .exit))) ⌝ }
 {
-    if report.len() <= at {
-        return Line::End;
+    match view::group(report, at) {
+        Group::End => Line::End,
+        Group::Bad => Line::Bad,
+        Group::Good(mark, past) => {
+            if 32 < nodes {
+                return Line::Bad;
+            }
+            let count = report[at + 4] as usize;
+            let causes = past - 4 * count;
+            let size = lay_mark(report, at, nodes, causes, count, room);
+            Line::Written(size, past)
+        }
     }
-    if !reading::group_here(report, at, nodes) {
-        return Line::Bad;
-    }
-    let causes = reading::past_stamp(report, at + 5, nodes);
-    let count = report[at + 4] as usize;
-    let size = lay_mark(report, at, nodes, causes, count, room);
-    Line::Written(size, causes + 4 * count)
 }
 
 // Lays the line of a mark over the front of the room.
@@ -45,9 +50,9 @@ fn lay_mark(
     count: usize,
     room: &mut [u8],
 ) -> usize
-    requires { ⌜ (groupHere nodes (now report) mark ≡ true) × (length (now room) ≡ 4096) ⌝ }
-    requires { ⌜ (causes ≡ causePlace nodes (now report) mark) × (count ≡ causeCount (now report) mark) × (count < 256) ⌝ }
-    ensures { λ r. ⌜ Laid 0 (markLine nodes (groupAt nodes (now (report .entry)) mark))
+    requires { ⌜ (groupFits (now report) mark ≡ true) × (nodes ≤ 32) × (length (now room) ≡ 4096) ⌝ }
+    requires { ⌜ (causes ≡ causePlace (now report) mark) × (count ≡ causeCount (now report) mark) × (count < 256) ⌝ }
+    ensures { λ r. ⌜ Laid 0 (answerLine nodes (answerAt (now (report .entry)) mark))
         (now (room .entry)) (now (room .exit)) r ⌝ }
 {
     let named = heading(report, mark, room);

@@ -4,16 +4,18 @@ use Prim.Native.Nat.{_+_, _*_, _≤_}
 use native.Mathlib.Omega.{arith}
 use lib.ListN.{length}
 use Rattle.words.proofs.Laying.{and-then}
-use Rattle.reading.specs.Reading.{groupAt}
-use Rattle.reading.proofs.Standing.{group-within}
-use Rattle.text.specs.Text.{lineOf, markLine}
+use Rattle.reading.specs.Reading.{answerAt}
+use Rattle.shape.specs.Shape.{pastGroup}
+use Rattle.shape.proofs.FittingGroup.{group-parts, group-inside}
+use Rattle.text.specs.Text.{lineOf}
 use borrow.Author.Needs.{needs}
 use Rattle.text.proofs.lay_mark.Statement.{statement}
 use Rattle.text.proofs.lay_mark.Tie as tie
 
 -- the group lies within the report
-within : (c : tie.Start) → let a = c .args in (a .nodes ≤ 32) × (a .mark + 5 ≤ length (a .report .now)) × (a .causes + 4 * a .count ≤ length (a .report .now))
-within c = rw (c .pre .1 .0, c .pre .1 .1) (group-within _ _ _ (c .pre .0 .0))
+within : (c : tie.Start) → let a = c .args in (a .mark + 5 ≤ length (a .report .now)) × (a .causes + 4 * a .count ≤ length (a .report .now))
+unfolding pastGroup
+within c = let (long, inside) = group-inside _ _ (c .pre .0 .0) in rw (c .pre .1 .0, c .pre .1 .1) (omega arith, inside)
 
 heading-requires : tie.Need-heading-requires
 heading-requires c κs = omega (arith, within (c .before .before .before))
@@ -24,7 +26,7 @@ add-stamp c = omega (arith, within (c .before .before .before .before .before .b
 stamp-requires : tie.Need-stamp-requires
 stamp-requires c κs =
     let s = c .before .before .before .before .before .before .before in
-    omega (arith, within s, c .before .before .before .heading .ensures .1, c .before .before .before .heading .kept .1 .1 .0, s .pre .0 .1)
+    omega (arith, within s, c .before .before .before .heading .ensures .1, c .before .before .before .heading .kept .1 .1 .0, s .pre .0)
 
 ending-requires : tie.Need-ending-requires
 ending-requires c κs =
@@ -37,11 +39,12 @@ same-length : tie.Need-same-length
 same-length c = search needs
 
 returns : tie.Need-returns
-unfolding groupAt lineOf markLine
+unfolding answerAt lineOf
 returns c =
     let s = c .before .before .before .before .before .before .before .before .before .before .before .before .before .before in
     let last = c .before .before .ending .ensures in
-    and-then (and-then (c .before .before .before .before .before .before .before .before .before .before .heading .ensures .0) (c .before .before .before .before .before .before .stamp .ensures .0)) (rw (s .pre .1 .0, s .pre .1 .1) at last)
+    rw (group-parts (s .pre .0 .0) .own-count)
+    (and-then (and-then (c .before .before .before .before .before .before .before .before .before .before .heading .ensures .0) (c .before .before .before .before .before .before .stamp .ensures .0)) (rw (s .pre .1 .0, s .pre .1 .1) at last))
 
 pub lay-mark-spec : {M : Type 1} → statement M
 lay-mark-spec =

@@ -1,0 +1,4 @@
+pub mod Walked
+pub mod Marks
+pub mod Walking
+pub mod Samples

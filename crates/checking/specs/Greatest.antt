@@ -1,0 +1,13 @@
+-- What a pass over a report keeps, so that it need not look back: the greatest number of each node.
+-- Assumes nothing.
+use mathlib.Core.Path.{_≡_}
+use mathlib.Core.List.{List}
+use Prim.Native.Nat.{ℕ, _≤_, _<_}
+use lib.ListN.{length, getD}
+use Rattle.shape.specs.Shape.{nodeAt, numberHere}
+use Rattle.checking.specs.WellFormed.{groupPlace}
+
+-- the greatest number of each node among the first m groups: a number above it has no group there
+pub record Greatest (report : List ℕ) (m : ℕ) (table : List ℕ) : Type 0 where
+  pub nodes : length table ≡ 32
+  pub covers : (j : ℕ) → j < m → numberHere report (groupPlace report j) ≤ getD table (nodeAt report (groupPlace report j)) 0

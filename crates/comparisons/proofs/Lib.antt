@@ -1,0 +1,9 @@
+pub mod Written
+pub mod GroupRead
+pub mod WellFormedRead
+pub mod OwnAnswers
+pub mod StampedOrder
+pub mod OwnReport
+pub mod RunCompared
+pub mod OwnLines
+pub mod Cases

@@ -1,0 +1,5 @@
+pub mod Entries
+pub mod FittingGroup
+pub mod StampPassed
+pub mod GroupSeen
+pub mod GroupWritten

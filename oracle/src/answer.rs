@@ -1,10 +1,12 @@
-//! The answer to a question: number, place, totals, and the contents of the rooms.
+//! The answer to a question: of a run its number, place, totals and the contents of the rooms, of
+//! a comparison how the marks stand to each other, or its number and place.
 
 use crate::digest::Digest;
-use crate::frames::{self, Question, Run};
+use crate::frames::{self, Compare, Question, Run};
 use crate::letters::{Letters, Mode};
 use crate::order::Order;
 use crate::reader;
+use crate::relation;
 use crate::report;
 use crate::rooms::Rooms;
 use std::io::{self, Read, Write};
@@ -74,6 +76,7 @@ pub fn report_length(bytes: &[u8]) -> Option<usize> {
 pub fn line(question: &Question) -> String {
     match question {
         Question::Run(run) => run_line(run),
+        Question::Compare(compare) => compare_line(compare),
     }
 }
 
@@ -98,6 +101,13 @@ fn run_line(question: &Run) -> String {
     let totals = totals.iter().map(ToString::to_string);
     let digests = digests.iter().map(ToString::to_string);
     totals.chain(digests).collect::<Vec<String>>().join(" ")
+}
+
+fn compare_line(question: &Compare) -> String {
+    match relation::between(&question.report, question.first, question.second) {
+        Ok(relation) => relation.word().to_string(),
+        Err(refusal) => format!("{} {}", refusal.number, refusal.place),
+    }
 }
 
 /// Answers the questions of an input, a line for each, until it ends or a frame is bad.

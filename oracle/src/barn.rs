@@ -91,6 +91,19 @@ impl Style {
             lost: 1_000_000,
         }
     }
+
+    /// A few nodes with many messages between two marks, so that many marks are before others.
+    pub fn knit(chance: &mut Chance) -> Style {
+        Style {
+            nodes: chance.between(2, 4) as u8,
+            weights: [1, 1, 6, 6],
+            partners: Partners::Anyone,
+            arrival: Arrival::Any,
+            numbering: Numbering::Lowest,
+            most_in_flight: chance.between(1, 4),
+            lost: 1_000_000,
+        }
+    }
 }
 
 #[derive(Clone, Copy)]
@@ -135,6 +148,11 @@ impl Barn {
 
     pub fn is_full(&self) -> bool {
         self.records.len() > MOST_EVENTS
+    }
+
+    pub fn marks(&self) -> usize {
+        let is_mark = |record: &&Record| matches!(record, Record::Mark { .. });
+        self.records.iter().filter(is_mark).count()
     }
 
     pub fn has_number(&self, number: u16) -> bool {

@@ -6,7 +6,7 @@ use crate::damage;
 use crate::faults::{self, Fault, FAULTS};
 use crate::frames::LONGEST_LOG;
 use crate::reader::{MOST_EVENTS, MOST_IN_FLIGHT};
-use crate::records::Record;
+use crate::records::{self, Record};
 
 type Big = fn(&mut Chance) -> Vec<u8>;
 
@@ -147,7 +147,7 @@ fn damaged(chance: &mut Chance) -> Vec<u8> {
     let style = style(chance, nodes, [1, 1, 4, 4]);
     let events = chance.between(1_500, 4_096);
     let log = Barn::grown(chance, style, events).bytes();
-    damage::damaged(chance, log)
+    damage::damaged(chance, &records::KINDS, log)
 }
 
 /// A full log that goes on past the 4,097th event.
@@ -205,6 +205,6 @@ fn longest_input(chance: &mut Chance) -> Vec<u8> {
     let style = style(chance, nodes, [1, 1, 4, 4]);
     let mut log = Barn::grown(chance, style, 2_000).bytes();
     let left = LONGEST_LOG - log.len();
-    log.extend(damage::any_bytes(chance, left));
+    log.extend(damage::any_log(chance, left));
     log
 }

@@ -8,14 +8,18 @@ use crate::damage;
 use crate::faults::{self, Fault, FAULTS};
 use crate::frames::{self, Question, Run, LARGEST, LONGEST_LOG};
 use crate::letters::Mode;
+use crate::pairs;
 use crate::reader::MOST_IN_FLIGHT;
-use crate::records::OPENING;
+use crate::records::{self, OPENING};
 use crate::rooms::{Sizes, COUNTS, MAIL, WORDS};
 use crate::text::REPORT_ROOM;
 use std::io::{self, Write};
 
-/// The turns of a round; the last brings a big log, which is so one question in fifty.
-const ROUND: u64 = 50;
+/// The turns of a round: those that run a log, the last of them a big one; those that compare the
+/// pairs of one small log; and those that compare anything else.
+const RUNS: usize = 50;
+const PAIRS_END: usize = RUNS + pairs::PAIRS;
+const ROUND: usize = PAIRS_END + pairs::TURNS;
 
 /// Writes so many framed questions.
 pub fn write(seed: u64, count: u64, output: &mut impl Write) -> io::Result<()> {
@@ -27,7 +31,21 @@ pub fn write(seed: u64, count: u64, output: &mut impl Write) -> io::Result<()> {
 
 pub fn question(seed: u64, index: u64) -> Question {
     let chance = &mut Chance::of(seed, index);
-    let (round, turn) = ((index / ROUND) as usize, (index % ROUND) as usize);
+    let round = (index / ROUND as u64) as usize;
+    let turn = (index % ROUND as u64) as usize;
+    match turn {
+        0..RUNS => Question::Run(run(chance, round, turn)),
+        RUNS..PAIRS_END => {
+            // One log for them all, so they take the chance of the first.
+            let pair = turn - RUNS;
+            let chance = &mut Chance::of(seed, index - pair as u64);
+            Question::Compare(pairs::of_small_log(chance, pair))
+        }
+        _ => Question::Compare(pairs::of_turn(chance, round, turn - PAIRS_END)),
+    }
+}
+
+fn run(chance: &mut Chance, round: usize, turn: usize) -> Run {
     let mut log = log(chance, round, turn);
     log.truncate(LONGEST_LOG);
     let mut sizes = Sizes {
@@ -39,7 +57,7 @@ pub fn question(seed: u64, index: u64) -> Question {
         make_too_small(chance, &mut sizes, 2 * round + turn - 45);
     }
     let mode = chance.pick(&[Mode::Full, Mode::Short, Mode::Short]);
-    Question::Run(Run { mode, sizes, log })
+    Run { mode, sizes, log }
 }
 
 /// The log for a turn of a round.
@@ -56,11 +74,11 @@ fn log(chance: &mut Chance, round: usize, turn: usize) -> Vec<u8> {
         }
         34..=40 => {
             let log = grown(chance, 0, 60);
-            damage::damaged(chance, log)
+            damage::damaged(chance, &records::KINDS, log)
         }
         41..=44 => {
             let length = chance.pick(&[0, 1, 2, 3, 8, 20, 60, 300]);
-            damage::any_bytes(chance, length)
+            damage::any_log(chance, length)
         }
         45 => grown(chance, 0, 20),
         46 => faults::faulty(chance, FAULTS[round % FAULTS.len()]),

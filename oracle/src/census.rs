@@ -4,6 +4,7 @@ use crate::answer::{self, Answer};
 use crate::frames::{self, Question, Run};
 use crate::letters::{Letters, Mode};
 use crate::order::Order;
+use crate::pair_kinds;
 use crate::reader::{self, Act, Log, MOST_EVENTS, MOST_IN_FLIGHT};
 use crate::rooms::{Rooms, COUNTS, MAIL, WORDS};
 use std::collections::BTreeSet;
@@ -11,7 +12,7 @@ use std::io::{self, Read, Write};
 
 const NUMBERS: u8 = 14;
 
-/// A question with its answer; the log and its letters only where the answer is 0.
+/// A question to run with its answer; the log and its letters only where the answer is 0.
 struct Case {
     run: Run,
     answer: Answer,
@@ -46,10 +47,40 @@ impl Case {
     }
 }
 
-type Kind = (&'static str, fn(&Case) -> bool);
+/// What is counted, and which cases are such.
+pub type Kind<C> = (&'static str, fn(&C) -> bool);
 
-/// What is counted beside the refusal numbers.
-const KINDS: [Kind; 26] = [
+/// How many cases are of each kind.
+struct Counts<C: 'static> {
+    kinds: &'static [Kind<C>],
+    cases: usize,
+    such: Vec<usize>,
+}
+
+impl<C> Counts<C> {
+    fn of(kinds: &'static [Kind<C>]) -> Counts<C> {
+        Counts {
+            kinds,
+            cases: 0,
+            such: vec![0; kinds.len()],
+        }
+    }
+
+    fn add(&mut self, case: &C) {
+        self.cases += 1;
+        for (count, (_, is_such)) in self.such.iter_mut().zip(self.kinds) {
+            *count += usize::from(is_such(case));
+        }
+    }
+
+    fn lines(&self) -> impl Iterator<Item = (String, usize)> + '_ {
+        let names = self.kinds.iter().map(|(name, _)| name.to_string());
+        names.zip(self.such.iter().copied())
+    }
+}
+
+/// What is counted of the runs beside the refusal numbers.
+const KINDS: [Kind<Case>; 26] = [
     ("full", |case| case.run.mode == Mode::Full),
     ("short", |case| case.run.mode == Mode::Short),
     ("counts one too small", |case| {
@@ -155,25 +186,23 @@ fn overtakes(log: &Log) -> bool {
 /// Prints how many questions are of each kind and tells whether there are some of all.
 pub fn census(input: &mut impl Read, output: &mut impl Write) -> io::Result<bool> {
     let mut numbers = [0; NUMBERS as usize];
-    let mut kinds = [0; KINDS.len()];
-    let mut questions = 0;
+    let mut runs = Counts::of(&KINDS);
+    let mut pairs = Counts::of(&pair_kinds::KINDS);
     while let Some(question) = frames::next(input).map_err(|_| bad_frame())? {
-        let Question::Run(run) = question;
-        let case = Case::of(run);
-        questions += 1;
-        numbers[usize::from(case.answer.number)] += 1;
-        for (count, (_, is_such)) in kinds.iter_mut().zip(&KINDS) {
-            *count += usize::from(is_such(&case));
+        match question {
+            Question::Run(run) => {
+                let case = Case::of(run);
+                numbers[usize::from(case.answer.number)] += 1;
+                runs.add(&case);
+            }
+            Question::Compare(compare) => pairs.add(&pair_kinds::Case::of(compare)),
         }
     }
-    let mut lines: Vec<(String, usize)> = vec![("questions".to_string(), questions)];
+    let mut lines = vec![("questions to run".to_string(), runs.cases)];
     lines.extend((0..NUMBERS).map(|number| (format!("number {number}"), numbers[number as usize])));
-    lines.extend(
-        KINDS
-            .iter()
-            .zip(kinds)
-            .map(|((name, _), count)| (name.to_string(), count)),
-    );
+    lines.extend(runs.lines());
+    lines.push(("questions to compare".to_string(), pairs.cases));
+    lines.extend(pairs.lines());
     print(&lines, output)
 }
 

@@ -1,5 +1,6 @@
 //! Framed questions: reading and writing them.
 
+use crate::groups::Name;
 use crate::letters::Mode;
 use crate::rooms::Sizes;
 use std::io::Read;
@@ -11,13 +12,16 @@ pub const LARGEST: Sizes = Sizes {
     report: 131_072,
 };
 pub const LONGEST_LOG: usize = 24_576;
+pub const LONGEST_REPORT: usize = 40_960;
 
 const RUN_FULL: u8 = 0;
 const RUN_SHORT: u8 = 1;
+const COMPARE: u8 = 2;
 
 #[derive(Clone, Debug, PartialEq, Eq)]
 pub enum Question {
     Run(Run),
+    Compare(Compare),
 }
 
 /// Run this log in rooms of these sizes.
@@ -26,6 +30,14 @@ pub struct Run {
     pub mode: Mode,
     pub sizes: Sizes,
     pub log: Vec<u8>,
+}
+
+/// Compare these two marks of this report.
+#[derive(Clone, Debug, PartialEq, Eq)]
+pub struct Compare {
+    pub first: Name,
+    pub second: Name,
+    pub report: Vec<u8>,
 }
 
 /// A frame of unknown kind, beyond the limits, or cut short.
@@ -41,6 +53,7 @@ pub fn next(input: &mut impl Read) -> Result<Option<Question>, BadFrame> {
     let question = match kind[0] {
         RUN_FULL => Question::Run(read_run(Mode::Full, input)?),
         RUN_SHORT => Question::Run(read_run(Mode::Short, input)?),
+        COMPARE => Question::Compare(read_compare(input)?),
         _ => return Err(BadFrame),
     };
     Ok(Some(question))
@@ -53,9 +66,30 @@ fn read_run(mode: Mode, input: &mut impl Read) -> Result<Run, BadFrame> {
         mail: read_length::<2>(input, LARGEST.mail)?,
         report: read_length::<4>(input, LARGEST.report)?,
     };
-    let mut log = vec![0; read_length::<4>(input, LONGEST_LOG)?];
-    input.read_exact(&mut log).map_err(|_| BadFrame)?;
+    let log = read_bytes(input, LONGEST_LOG)?;
     Ok(Run { mode, sizes, log })
+}
+
+fn read_compare(input: &mut impl Read) -> Result<Compare, BadFrame> {
+    Ok(Compare {
+        first: read_name(input)?,
+        second: read_name(input)?,
+        report: read_bytes(input, LONGEST_REPORT)?,
+    })
+}
+
+fn read_name(input: &mut impl Read) -> Result<Name, BadFrame> {
+    let mut bytes = [0; 3];
+    input.read_exact(&mut bytes).map_err(|_| BadFrame)?;
+    let [node, low, high] = bytes;
+    Ok((node, u16::from_le_bytes([low, high])))
+}
+
+/// Reads a length and so many bytes, which must not be above the limit.
+fn read_bytes(input: &mut impl Read, limit: usize) -> Result<Vec<u8>, BadFrame> {
+    let mut bytes = vec![0; read_length::<4>(input, limit)?];
+    input.read_exact(&mut bytes).map_err(|_| BadFrame)?;
+    Ok(bytes)
 }
 
 /// Reads a length of so many bytes, low byte first, that must not be above the limit.
@@ -74,6 +108,7 @@ fn read_length<const BYTES: usize>(input: &mut impl Read, limit: usize) -> Resul
 pub fn frame(question: &Question) -> Vec<u8> {
     match question {
         Question::Run(run) => frame_run(run),
+        Question::Compare(compare) => frame_compare(compare),
     }
 }
 
@@ -89,5 +124,16 @@ fn frame_run(run: &Run) -> Vec<u8> {
         frame.extend((length as u32).to_le_bytes());
     }
     frame.extend(&run.log);
+    frame
+}
+
+fn frame_compare(compare: &Compare) -> Vec<u8> {
+    let mut frame = vec![COMPARE];
+    for (node, number) in [compare.first, compare.second] {
+        frame.push(node);
+        frame.extend(number.to_le_bytes());
+    }
+    frame.extend((compare.report.len() as u32).to_le_bytes());
+    frame.extend(&compare.report);
     frame
 }

@@ -1,4 +1,5 @@
-//! Answers questions about logs from the order of events itself, which it builds as sets.
+//! Answers questions about logs from the order of events itself, which it builds as sets, and
+//! questions about reports from their groups.
 //!
 //! It knows nothing of the program whose answers it is held against, and merges no counts.
 
@@ -9,18 +10,27 @@ mod cases;
 mod census;
 mod chance;
 mod compare;
+mod cuts;
 mod damage;
 mod digest;
 mod faults;
+mod flaws;
 mod frames;
+mod groups;
 mod letters;
+mod long;
 mod order;
+mod pair_kinds;
+mod pairs;
 mod reader;
 mod records;
+mod relation;
 mod report;
 mod rooms;
 mod script;
 mod set;
+mod sheets;
+mod stamps;
 #[cfg(test)]
 mod tests;
 mod text;

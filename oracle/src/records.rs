@@ -5,6 +5,7 @@ pub const IDLE: u8 = 0x11;
 pub const MARK: u8 = 0x12;
 pub const SEND: u8 = 0x13;
 pub const RECEIPT: u8 = 0x14;
+pub const KINDS: [u8; 5] = [OPENING, IDLE, MARK, SEND, RECEIPT];
 
 #[derive(Clone, Copy, Debug, PartialEq, Eq)]
 pub enum Record {

@@ -1,11 +1,8 @@
 //! The marks of a log with their stamps and direct predecessors, and the report of them.
 
+use crate::groups::Group;
 use crate::order::Order;
 use crate::reader::{Act, Log};
-
-const MARK: u8 = 0x21;
-const STAMP: u8 = 0x22;
-const DIRECT: u8 = 0x23;
 
 #[derive(Clone, Debug, PartialEq, Eq)]
 pub struct Mark {
@@ -34,23 +31,9 @@ pub fn marks(log: &Log, order: &Order) -> Vec<Mark> {
 }
 
 pub fn bytes_of(marks: &[Mark]) -> Vec<u8> {
-    let mut report = Vec::new();
-    for mark in marks {
-        put(&mut report, MARK, mark.node, mark.number);
-        report.push(mark.direct.len() as u8);
-        for (node, &count) in mark.stamp.iter().enumerate() {
-            if count > 0 {
-                put(&mut report, STAMP, node, count);
-            }
-        }
-        for &(node, number) in &mark.direct {
-            put(&mut report, DIRECT, node, number);
-        }
-    }
-    report
-}
-
-fn put(report: &mut Vec<u8>, kind: u8, node: usize, number: u16) {
-    report.extend([kind, node as u8]);
-    report.extend(number.to_le_bytes());
+    marks
+        .iter()
+        .map(Group::of)
+        .flat_map(|group| group.bytes())
+        .collect()
 }

@@ -1,5 +1,8 @@
-// The header of a question.
+// The header of a question, behind its first byte.
+use log::MarkNumber;
+use log::Node;
 use room::Mode;
+use shape::Mark;
 ghost use mathlib.Core.Path.{_≡_};
 ghost use Prim.Native.Nat.{_+_, _*_, _<_, _≤_, min};
 ghost use lib.ListN.{length, getD};
@@ -14,11 +17,20 @@ pub struct Frame {
     pub log: usize,
 }
 
+// What a question to compare asks: the marks, and the length of the report that follows.
+pub struct Pair {
+    pub first: Mark,
+    pub second: Mark,
+    pub report: usize,
+}
+
 // A header, read.
 pub enum Asked {
     // A run.
     Run(Frame),
-    // No question, or one that is too large.
+    // A comparison.
+    Compare(Pair),
+    // A question that is too large.
     Bad,
 }
 
@@ -50,33 +62,49 @@ fn four_bytes(header: &[u8], at: usize) -> usize
     low + 65536 * high
 }
 
-// Reads a header.
-pub fn read(header: &[u8; 15]) -> Asked {
-    let counts = two_bytes(header, 1);
-    let words = two_bytes(header, 3);
-    let mail = two_bytes(header, 5);
-    let report = four_bytes(header, 7);
-    let log = four_bytes(header, 11);
+// Reads the header of a run.
+pub fn read_run(mode: Mode, header: &[u8; 14]) -> Asked {
+    let counts = two_bytes(header, 0);
+    let words = two_bytes(header, 2);
+    let mail = two_bytes(header, 4);
+    let report = four_bytes(header, 6);
+    let log = four_bytes(header, 10);
     if counts > 2048 || words > 2048 || mail > 8192 || report > 131072 || log > 24576 {
         return Asked::Bad;
     }
-    match header[0] {
-        0 => Asked::Run(Frame {
-            mode: Mode::Full,
-            counts,
-            words,
-            mail,
-            report,
-            log,
-        }),
-        1 => Asked::Run(Frame {
-            mode: Mode::Short,
-            counts,
-            words,
-            mail,
-            report,
-            log,
-        }),
-        _ => Asked::Bad,
+    Asked::Run(Frame {
+        mode,
+        counts,
+        words,
+        mail,
+        report,
+        log,
+    })
+}
+
+// The mark of three bytes: its node, and its number low byte first.
+fn mark(header: &[u8], at: usize) -> Mark
+    requires { ⌜ at + 3 ≤ length (now header) ⌝ }
+{
+    let node = header[at];
+    let number = two_bytes(header, at + 1) as u16;
+    Mark {
+        node: Node(node),
+        number: MarkNumber(number),
     }
+}
+
+// Reads the header of a comparison.
+pub fn read_pair(header: &[u8; 10]) -> Asked {
+    let first = mark(header, 0);
+    let second = mark(header, 3);
+    let report = four_bytes(header, 6);
+    if report > 40960 {
+        return Asked::Bad;
+    }
+    Asked::Compare(Pair {
+        first,
+        second,
+        report,
+    })
 }

@@ -1,15 +1,21 @@
-// Answers framed questions on standard input until it ends, one line each, so that any tool can ask what a run does.
+// Answers framed questions on standard input until it ends, one line each, so that any tool can ask what a run does, or how two
+// marks of a report stand to each other.
 //
-// A frame is a byte (0: run full, 1: run short), the lengths of counts, words and mail in elements (two bytes each), of the
-// report room and of the log (four bytes each), all low byte first, and the log. The answer is the run's number, place and
-// totals, then the digests of the report, counts, words and mail rooms, which were filled with 0xA5 bytes before.
+// A frame to run a log is a byte (0: full, 1: short), the lengths of counts, words and mail in elements (two bytes each), of
+// the report room and of the log (four bytes each), and the log. The answer is the run's number, place and totals, then the
+// digests of the report, counts, words and mail rooms, which were filled with 0xA5 bytes before.
+//
+// A frame to compare two marks is the byte 2, node and number of each mark (one byte and two), the length of the report (four
+// bytes), and the report. The answer is before, after or apart, or 01's number and place. Numbers are low byte first.
 mod digest;
 mod fill;
 mod frame;
 
+use comparing::Compared;
 use digest::Digest;
 use frame::Asked;
 use frame::Frame;
+use frame::Pair;
 use libc::STDIN_FILENO;
 use libc::STDOUT_FILENO;
 use passes::Tally;
@@ -145,19 +151,88 @@ fn answer_frame(asked: Frame) -> bool {
     )
 }
 
+// Writes a line of answer.
+fn print_line(line: &[u8]) {
+    io::write_all(STDOUT_FILENO, line);
+}
+
+// Writes a refusal's number and place.
+fn print_refused(number: u64, place: usize) {
+    print(number, b' ');
+    print(place as u64, b'\n');
+}
+
+// Writes how two marks stand to each other, or 01's number and place.
+fn print_compared(compared: Compared) {
+    match compared {
+        Compared::Before => print_line(b"before\n"),
+        Compared::After => print_line(b"after\n"),
+        Compared::Apart => print_line(b"apart\n"),
+        Compared::NotWellFormed(place) => print_refused(14, place),
+        Compared::FirstAbsent => print_refused(15, 0),
+        Compared::SecondAbsent => print_refused(16, 0),
+    }
+}
+
+// Reads the report of a frame into its room and compares in it; false where the report is cut short.
+fn compare_in(asked: Pair, report: &mut [u8]) -> bool {
+    let report_end = frame::within(asked.report, report.len());
+    let got = io::read_full(STDIN_FILENO, &mut report[..report_end]);
+    if got < report_end {
+        return bad_frame();
+    }
+    let told = comparing::compare(&report[..report_end], asked.first, asked.second);
+    print_compared(told);
+    true
+}
+
+// Answers a comparison with room for the longest report that one may bring.
+fn answer_pair(asked: Pair) -> bool {
+    let mut report = [0u8; 40960];
+    compare_in(asked, &mut report)
+}
+
+// Answers what a header asks.
+fn answer_asked(asked: Asked) -> bool {
+    match asked {
+        Asked::Run(run) => answer_frame(run),
+        Asked::Compare(pair) => answer_pair(pair),
+        Asked::Bad => bad_frame(),
+    }
+}
+
+// Reads the rest of a run's header and answers it.
+fn ask_run(mode: Mode) -> bool {
+    let mut header = [0u8; 14];
+    let got = io::read_full(STDIN_FILENO, &mut header);
+    if got < 14 {
+        return bad_frame();
+    }
+    answer_asked(frame::read_run(mode, &header))
+}
+
+// Reads the rest of a comparison's header and answers it.
+fn ask_pair() -> bool {
+    let mut header = [0u8; 10];
+    let got = io::read_full(STDIN_FILENO, &mut header);
+    if got < 10 {
+        return bad_frame();
+    }
+    answer_asked(frame::read_pair(&header))
+}
+
 // Reads and answers one question; false where there is no further one.
 fn ask() -> bool {
-    let mut header = [0u8; 15];
-    let got = io::read_full(STDIN_FILENO, &mut header);
+    let mut kind = [0u8; 1];
+    let got = io::read_full(STDIN_FILENO, &mut kind);
     if got == 0 {
         return false;
     }
-    if got < 15 {
-        return bad_frame();
-    }
-    match frame::read(&header) {
-        Asked::Run(asked) => answer_frame(asked),
-        Asked::Bad => bad_frame(),
+    match kind[0] {
+        0 => ask_run(Mode::Full),
+        1 => ask_run(Mode::Short),
+        2 => ask_pair(),
+        _ => bad_frame(),
     }
 }
 

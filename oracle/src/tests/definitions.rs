@@ -4,6 +4,7 @@ use crate::barn::{Barn, Style};
 use crate::chance::Chance;
 use crate::order::Order;
 use crate::reader::{self, Act, Log};
+use crate::relation::{self, Relation};
 use crate::report;
 
 /// For each event those before it: the closure of "directly precedes", by trying all between.
@@ -77,6 +78,26 @@ fn assert_flags(log: &Log, order: &Order, before: &[Vec<bool>]) {
     }
 }
 
+/// In the log's own report a mark is before another exactly if the closure has it, and after it
+/// exactly if the closure has it the other way round.
+fn assert_relations(log: &Log, before: &[Vec<bool>], marks: &[report::Mark]) {
+    let is_mark = |e: &usize| log.events[*e].act == Act::Mark;
+    let places: Vec<usize> = (0..log.events.len()).filter(is_mark).collect();
+    let bytes = report::bytes_of(marks);
+    let name = |mark: &report::Mark| (mark.node as u8, mark.number);
+    for (&e, first) in places.iter().zip(marks) {
+        for (&f, second) in places.iter().zip(marks) {
+            let relation = match (before[e][f], before[f][e]) {
+                (true, _) => Relation::Before,
+                (_, true) => Relation::After,
+                _ => Relation::Apart,
+            };
+            let found = relation::between(&bytes, name(first), name(second));
+            assert_eq!(found, Ok(relation));
+        }
+    }
+}
+
 #[test]
 fn small_logs_by_definition() {
     for question in 0..400 {
@@ -92,9 +113,11 @@ fn small_logs_by_definition() {
         }
         let is_mark = |e: &usize| log.events[*e].act == Act::Mark;
         let places = (0..log.events.len()).filter(is_mark);
-        for (e, mark) in places.zip(report::marks(&log, &order)) {
-            assert_mark(&log, &before, e, &mark);
+        let marks = report::marks(&log, &order);
+        for (e, mark) in places.zip(&marks) {
+            assert_mark(&log, &before, e, mark);
         }
+        assert_relations(&log, &before, &marks);
         assert_flags(&log, &order, &before);
     }
 }

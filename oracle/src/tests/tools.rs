@@ -6,7 +6,7 @@ use crate::cases;
 use crate::census;
 use crate::compare;
 use crate::digest::Digest;
-use crate::frames::{self, BadFrame, Question, Run};
+use crate::frames::{self, BadFrame, Compare, Question, Run};
 use crate::letters::Mode;
 use crate::script;
 use crate::text;
@@ -16,6 +16,15 @@ fn question_a(report: usize) -> Question {
         mode: Mode::Short,
         sizes: sizes(report),
         log: A.to_vec(),
+    })
+}
+
+/// Two marks of a report of one group.
+fn question_of_one(first: (u8, u16), second: (u8, u16)) -> Question {
+    Question::Compare(Compare {
+        first,
+        second,
+        report: vec![0x21, 3, 1, 2, 0, 0x22, 3, 1, 2],
     })
 }
 
@@ -45,6 +54,25 @@ fn frame_of_a() {
         assert_eq!(frames::next(&mut &frame[..length]), Err(BadFrame));
     }
     assert_eq!(frames::next(&mut &[][..]), Ok(None));
+}
+
+#[test]
+fn frame_of_a_comparison() {
+    let question = question_of_one((3, 0x0201), (31, 5));
+    let frame = frames::frame(&question);
+    assert_eq!(frame[..11], [2, 3, 1, 2, 31, 5, 0, 9, 0, 0, 0]);
+    assert_eq!(frame[11..], [0x21, 3, 1, 2, 0, 0x22, 3, 1, 2]);
+    assert_eq!(frames::next(&mut &frame[..]), Ok(Some(question)));
+    for length in 1..frame.len() {
+        assert_eq!(frames::next(&mut &frame[..length]), Err(BadFrame));
+    }
+}
+
+#[test]
+fn reports_beyond_the_limit() {
+    let frame = |low| [vec![2, 0, 1, 0, 0, 1, 0, low, 160, 0, 0], vec![0; 50_000]].concat();
+    assert!(frames::next(&mut &frame(0)[..]).is_ok());
+    assert_eq!(frames::next(&mut &frame(1)[..]), Err(BadFrame));
 }
 
 #[test]
@@ -78,12 +106,70 @@ fn answers_until_a_bad_frame() {
 }
 
 #[test]
+fn answers_to_comparisons() {
+    let [here, there] = [(3, 0x0201), (3, 0x0202)];
+    let mut bad = frames::frame(&question_of_one(here, here));
+    bad.push(0x23);
+    bad[7] += 1;
+    let frames = [
+        frames::frame(&question_of_one(here, here)),
+        frames::frame(&question_of_one(there, here)),
+        frames::frame(&question_of_one(here, there)),
+        bad,
+    ];
+    assert_eq!(answers(&frames.concat()), "apart\n15 0\n16 0\n14 9\n");
+}
+
+#[test]
 fn any_three_thousand_cases_cover_everything() {
     for seed in [1, 2, 0xFFFF_FFFF_FFFF_FFFF] {
         let mut questions = Vec::new();
         cases::write(seed, 3_000, &mut questions).expect("a vector takes all");
         let complete = census::census(&mut &questions[..], &mut Vec::new());
         assert!(complete.expect("the frames are good"), "seed {seed}");
+    }
+}
+
+/// How many of these lines begin with this word.
+fn beginning(lines: &str, word: &str) -> usize {
+    let begins = |line: &&str| line.split(' ').next() == Some(word);
+    lines.lines().filter(begins).count()
+}
+
+#[test]
+fn a_third_of_the_cases_compare_and_have_every_answer_often() {
+    for seed in [1, 2, 0xFFFF_FFFF_FFFF_FFFF] {
+        let compares = |index: &u64| matches!(cases::question(seed, *index), Question::Compare(_));
+        let comparisons = (0..3_000).filter(compares);
+        let frames = comparisons.map(|index| frames::frame(&cases::question(seed, index)));
+        let lines = answers(&frames.collect::<Vec<_>>().concat());
+        assert_eq!(lines.lines().count(), 1_000);
+        for (word, least) in [
+            ("before", 80),
+            ("after", 80),
+            ("apart", 250),
+            ("14", 300),
+            ("15", 35),
+            ("16", 15),
+        ] {
+            let many = beginning(&lines, word);
+            assert!(many >= least, "seed {seed}: {word} {many} times");
+        }
+    }
+}
+
+#[test]
+fn every_pair_of_a_small_log_is_compared() {
+    let comparison = |index| match cases::question(5, index) {
+        Question::Compare(compare) => compare,
+        Question::Run(_) => panic!("a turn that compares"),
+    };
+    let pairs: Vec<Compare> = (50..59).map(comparison).collect();
+    assert!(pairs.iter().all(|pair| pair.report == pairs[0].report));
+    for (index, pair) in pairs.iter().enumerate() {
+        assert_eq!(pair.first, pairs[4 * (index / 3)].first);
+        assert_eq!(pair.second, pairs[4 * (index % 3)].second);
+        assert_eq!(pair.first == pair.second, index % 4 == 0);
     }
 }
 
@@ -96,6 +182,7 @@ fn a_census_of_one_question_lacks_much() {
     assert!(!complete);
     assert!(lines.contains("number 0: 1\n"));
     assert!(lines.contains("missing: number 13\n"));
+    assert!(lines.contains("missing: before\n"));
 }
 
 fn compared(one: &str, other: &str) -> (bool, String) {

@@ -1,4 +1,4 @@
--- 01's text, computed: the three lines of log A from the 47 bytes of its report, and two numbers.
+-- 01's text, computed: the three lines of log A from the 47 bytes of its report, two reports that have no line, and two numbers.
 -- Assumes nothing.
 use mathlib.Core.Path.{_≡_, refl}
 use mathlib.Core.List.{List, [], _∷_}

@@ -5,7 +5,7 @@ use mathlib.Core.Path.{_≡_, refl, sym, _∙_, ap}
 use mathlib.Core.Bool.{true}
 use mathlib.Core.List.{List, [], _∷_, map, List·Memᴰ, List·Memᴰ·head, List·Memᴰ·tail}
 use Prim.Native.Nat.{ℕ}
-use lib.ListN.{length, take}
+use lib.ListN.{length}
 use Rattle.order.specs.Flight.{without, inFlight}
 use Rattle.log.specs.Record.{wholeAt, recordAt, openingOf}
 use Rattle.verdict.specs.Verdict.{rules, walk, verdict}
@@ -33,6 +33,7 @@ use Rattle.checking.specs.Surveyed.{walked, checked}
 use Rattle.comparing.specs.declared.Compared.{Compared}
 use Rattle.comparing.specs.declared.Compared.the-variants.{Apart}
 use Rattle.comparing.specs.Compare.{exceeds, differs, ordered, comparedAt, comparedIn, compared}
+use Rattle.comparisons.specs.OwnReport.{ownReport}
 
 -- ---- the table
 
@@ -167,14 +168,14 @@ pair-holds mode {c} m n =
     go Full = map-same (told Full) wanted cases (cases-hold .2) m
     go Short = map-same (told Short) wanted cases (cases-hold .3) m
 
--- In such a run's report, comparing a row's marks says what the row says.
+-- In the report that an accepted run of a row's log left, comparing the row's marks says what the row says.
 pub cases-compared : {mode : Mode} {c : Case} {x : Pair} {counts words mail report counts′ words′ mail′ report′ : List ℕ} {r : Answer}
     → List·Memᴰ c cases → List·Memᴰ x (c .pairs) → Roomy counts words mail → length report ≡ c .room
     → Ran mode (c .log) counts words mail report counts′ words′ mail′ report′ r → numberOf r ≡ 0
-    → compared (take (totalsOf r .bytes) report′) (x .first) (x .second) ≡ x .answer
+    → compared (ownReport r report′) (x .first) (x .second) ≡ x .answer
 cases-compared {mode} {c} {x} {report = report} {report′ = report′} {r = r} m n roomy size ran here =
     let e = ending (c .log) true (length report) in
     let (number, place, totals, laid-there) = seen-run roomy ran in
     let bytes : totalsOf r .bytes ≡ length (reported e) = ap (λ (t : Tally). t .bytes) totals ∙ bytes-reported mode (c .log) e (sym number ∙ here) in
-    let left : take (totalsOf r .bytes) report′ ≡ reported e = rw (bytes, laid-there) (laid-front (reported e) report) in
+    let left : ownReport r report′ ≡ reported e = rw (bytes, laid-there) (laid-front (reported e) report) in
     rw (left, size) (pair-holds mode m n)

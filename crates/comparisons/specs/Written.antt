@@ -6,7 +6,7 @@ use Prim.Native.Nat.{_≤_}
 use lib.ListN.{length}
 use Rattle.machine.specs.Answer.{Answer}
 use Rattle.shape.specs.declared.Mark.{Mark}
-use Rattle.shape.specs.Fits.{Fits}
+use Rattle.shape.specs.Fits.{Fits, markOf}
 
 -- the answer is to this mark
 abbrev pub IsTo : Answer → Mark → Type 0
@@ -14,7 +14,7 @@ IsTo a e = (a .node ≡ e .node .0) × (a .stamp (a .node) ≡ e .number .0)
 
 -- the answers are to one mark
 abbrev pub SameMark : Answer → Answer → Type 0
-SameMark a b = (a .node ≡ b .node) × (a .stamp (a .node) ≡ b .stamp (b .node))
+SameMark a b = IsTo a (markOf b)
 
 -- no mark twice
 pub data NoneTwice : List Answer → Type 0 where

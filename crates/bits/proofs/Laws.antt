@@ -2,7 +2,7 @@
 -- Assumes nothing.
 use mathlib.Core.Path.{_≡_, refl, sym, ap, _∙_}
 use mathlib.Core.Logic.{_↔_}
-use mathlib.Core.Bool.{Bool, true, false, not, _&&_, _||_, xor, cond, true≢false, and-eq-true-iff}
+use mathlib.Core.Bool.{Bool, true, false, not, _&&_, _||_, xor, cond, true≢false, or-true, or-false, and-eq-true-iff}
 use Prim.Native.Nat.{ℕ, zero, suc, _+_, _*_, _/_, _%_, _^_, _≤_, _<_}
 use native.Mathlib.Nat.{mod-lt, mod-eq-of-lt, zero-div, div-one, mul-mod-left, mul-div-cancel, one-mul, pow-suc, zero-lt-suc, add-assoc}
 use native.Mathlib.Numerals.{add-one, one-add}
@@ -87,10 +87,8 @@ bit-xor = bit-by bitXor xor xor-shr xor-mod (digits (λ a b. eqb (bitXor a b) 1 
 -- ---- one bit set, one bit clear
 
 or-cond : (b e : Bool) → (b || e) ≡ cond e true b
-or-cond true true = refl
-or-cond true false = refl
-or-cond false true = refl
-or-cond false false = refl
+or-cond b true = or-true b
+or-cond b false = or-false b
 
 xor-cond : (b e : Bool) → xor (cond e true b) e ≡ cond e false b
 unfolding xor
@@ -178,6 +176,11 @@ meets-one x k = same-flag (meets x (2 ^ k)) (bit x k) there (λ h. meets-exact x
         rw here (found .1)
 
 -- ---- how many bits are set
+
+-- a flag as a digit
+pub digit-small : (b : Bool) → cond b 1 0 ≤ 1
+digit-small true = omega arith
+digit-small false = omega arith
 
 lowest-count : (x : ℕ) → cond (bit x 0) 1 0 ≡ x % 2
 lowest-count x = rw (bit-lowest x) (digit (λ a. cond (eqb a 1) 1 0 ≡ a) refl refl (x % 2) (parity x))

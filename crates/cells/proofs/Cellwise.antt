@@ -1,8 +1,8 @@
 -- What is said of a cell and what an entry makes of it, by the cases that the code tests.
 -- Assumes nothing.
-use mathlib.Core.Path.{_≡_, refl}
+use mathlib.Core.Path.{_≡_, refl, sym}
 use mathlib.Core.Logic.{_≢_}
-use mathlib.Core.Bool.{Bool, true, false, _&&_, cond}
+use mathlib.Core.Bool.{Bool, true, false, _&&_, cond, and-true, and-false}
 use Prim.Native.Nat.{ℕ, zero, suc, _+_, _*_, _/_, _%_, _<_, max}
 use native.Mathlib.Omega.{arith}
 use borrow.Author.Tests.{eq-eqb, ne-eqb, lt-ltb, le-ltb}
@@ -48,10 +48,8 @@ module _ (spared : ℕ) (cell : Cell) where
 
 -- the lesser of two flags
 pub lesser : (x y : Bool) → cond y x false ≡ (x && y)
-lesser true true = refl
-lesser true false = refl
-lesser false true = refl
-lesser false false = refl
+lesser x true = sym (and-true x)
+lesser x false = sym (and-false x)
 
 module _ (sender : ℕ) (cell : Cell) where
   -- no entry

@@ -9,7 +9,7 @@ use borrow.Author.Tests.{ne-eqb, lt-ltb}
 use lib.Dec.{eqb, ltb}
 use lib.Bits.{bitOr}
 use Rattle.bits.specs.Bits.{bit, meets}
-use Rattle.bits.proofs.Laws.{bit-one, bit-or-one}
+use Rattle.bits.proofs.Laws.{bit-one, bit-or-one, digit-small}
 use Rattle.machine.specs.Machine.{put, Entry, absent, present}
 use Rattle.machine.specs.Short.{offer, note}
 use Rattle.machine.specs.Answer.{weight, entries}
@@ -19,11 +19,7 @@ use Rattle.cells.specs.Cells.{codeOf, entryOf, saidOf, noteWord}
 
 -- ---- entries as numbers
 
--- a flag as a digit
-digit-small : (x : Bool) → cond x 1 0 ≤ 1
-digit-small true = omega arith
-digit-small false = omega arith
-
+-- a flag as a digit is found again
 digit-decoded : (x : Bool) → eqb (cond x 1 0) 1 ≡ x
 digit-decoded true = refl
 digit-decoded false = refl
@@ -35,7 +31,7 @@ code-decoded (present c x) h =
     let code : ℕ = 2 * c + cond x 1 0 in
     let some : code ≢ 0 = omega (arith, h c x refl) in
     let half : code / 2 ≡ c = omega (arith, digit-small x) in
-    let rest : code % 2 ≡ cond x 1 0 = omega (arith, digit-small x) in
+    let rest : code % 2 ≡ cond x 1 0 = omega arith in
     rw (ne-eqb code 0 some, half, rest, digit-decoded x)
 
 -- an entry's number is at most twice its count and one more

@@ -1,3 +1,4 @@
 pub mod Cellwise
 pub mod Rowwise
 pub mod Entries
+pub mod OneResult

@@ -1,6 +1,6 @@
 -- A row of cells, one after another: none is done yet, and one more is done. The loops over a row are held to these.
 -- Assumes nothing.
-use mathlib.Core.Path.{_≡_, refl, sym, ap, ap₂, _∙_}
+use mathlib.Core.Path.{_≡_, refl, sym, ap₂, _∙_}
 use mathlib.Core.Logic.{_≢_}
 use mathlib.Core.Bool.{Bool}
 use mathlib.Core.List.{List}
@@ -29,9 +29,6 @@ unfolding entries
 packed-none spared row columns flags letter = record { written = below-none _; counted = refl }
 
 module _ (spared : ℕ) (row columns : List ℕ) (flags k : ℕ) (letter : List ℕ) (carried entry : ℕ) where
-  said : ℕ → ℕ
-  said m = codeOf (saidOf spared (cellAt row columns flags m))
-
   pub packed-more : Packed spared row columns flags k letter carried → k < length letter → entry ≡ codeOf (saidOf spared (cellAt row columns flags k))
       → Packed spared row columns flags (k + 1) (set letter k entry) (carried + weight (saidOf spared (cellAt row columns flags k)))
   unfolding entries

@@ -1,6 +1,6 @@
 // A node's cells, one for each node: what a message says of them, and what a letter makes of them.
 ghost use mathlib.Core.Path.{_≡_};
-ghost use Prim.Native.Nat.{ℕ, _≤_, _<_};
+ghost use Prim.Native.Nat.{ℕ, _≤_};
 ghost use lib.ListN.{length, getD};
 ghost use Rattle.cells.specs.Cells.{codeOf, entryOf, saidOf, merged, Packed, Joined};
 
@@ -11,7 +11,7 @@ pub struct Cell {
     pub direct: bool,
 }
 
-// What a message says of a cell, as a number. The bits of `spared` are those of nodes that need not be told what they brought.
+// What a message says of a cell, as a number: nothing of a count of zero, nor of one with a set flag that a node of `spared` brought.
 fn said(cell: Cell, spared: u32) -> u16
     requires { ⌜ cell .count ≤ 4096 ⌝ }
     ensures { λ r. ⌜ r ≡ codeOf (saidOf spared cell) ⌝ }

@@ -15,7 +15,8 @@ use borrow.Author.Tests.{eq-eqb, ne-eqb, eqb-true, le-ltb, lt-ltb}
 use Rattle.reading.proofs.Standing.{both}
 use Rattle.shape.specs.declared.Mark.{Mark}
 use Rattle.shape.specs.declared.Group.the-variants.{Good}
-use Rattle.shape.specs.Shape.{nodeAt, numberHere, groupFits, markHere, groupSeen}
+use Rattle.reading.specs.Reading.{nodeAt, numberHere}
+use Rattle.shape.specs.Shape.{groupFits, markHere, groupSeen}
 use Rattle.shape.proofs.FittingGroup.{group-parts}
 use Rattle.shape.proofs.GroupSeen.{seen-fits}
 use Rattle.checking.specs.WellFormed.{sameMark, groupPlace, placeAmong, AllGood}
@@ -145,8 +146,8 @@ module _ (report : List ℕ) where
       -- at the end none has it
       pub unfound-end : m ≤ k → false ≡ ltb (placeAmong report m e) (length report)
       unfound-end h =
-          let all : m ≡ k = omega (arith, u .few) in
-          let none : length report ≤ placeAmong report m e = rw all (omega (arith, u .none)) in
+          let all : m ≡ k = omega arith in
+          let none : length report ≤ placeAmong report m e = rw all (omega arith) in
           sym (le-ltb _ _ none)
 
       module _ (all : AllGood report m) (l : k < m) where
@@ -195,7 +196,7 @@ module _ (report : List ℕ) where
         record { nodes = length-set table i c ∙ g .nodes; covers = λ j l. go j (eq-or-lt-of-le (omega arith)) }
       where
         inside : i < length table
-        inside = omega (arith, g .nodes)
+        inside = omega arith
 
         old : (j : ℕ) → j < m → Dec (nodeAt report (groupPlace report j) ≡ i) → numberHere report (groupPlace report j) ≤ getD (set table i c) (nodeAt report (groupPlace report j)) 0
         old j l (yes same) = let most : numberHere report (groupPlace report j) ≤ getD table i 0 = rw (← same) (g .covers j l) in rw (same, getD-set-same table i c 0 inside) (omega arith)
@@ -222,14 +223,14 @@ module _ (report : List ℕ) where
 
       -- its node has a place in the table
       pub node-listed : e .node .0 < length table
-      node-listed = omega (arith, named .0, group-parts fits .head .below, g .nodes)
+      node-listed = omega (arith, named .0, group-parts fits .head .below)
 
       -- its number is above all of its node
       pub mark-new : getD table (e .node .0) 0 < e .number .0
           → (false ≡ ltb (placeAmong report m e) (length report)) × Greatest report (suc m) (set table (e .node .0) (e .number .0))
       mark-new h =
           let none : length report ≤ placeAmong report m e = omega (arith, greatest-new e h) in
-          (sym (le-ltb _ _ none), greatest-raised (e .node .0) (e .number .0) (omega (arith, node-listed, g .nodes)) (sym (named .0)) (sym (named .1)) h)
+          (sym (le-ltb _ _ none), greatest-raised (e .node .0) (e .number .0) (omega (arith, node-listed)) (sym (named .0)) (sym (named .1)) h)
 
       -- or it is not
       pub mark-below : e .number .0 ≤ getD table (e .node .0) 0 → Greatest report (suc m) table

@@ -3,7 +3,7 @@
 -- Assumes nothing.
 use mathlib.Core.Path.{_≡_, refl, sym, ap, _∙_}
 use mathlib.Core.Logic.{_⊎_, inl, inr, _↔_}
-use mathlib.Core.Bool.{Bool, true, false, _&&_}
+use mathlib.Core.Bool.{Bool, true, false, _&&_, false≢true}
 use mathlib.Core.List.{List}
 use Prim.Native.Nat.{ℕ, zero, suc, _+_, _-_, _≤_, _<_}
 use native.Mathlib.Nat.{zero-add, eq-or-lt-of-le}
@@ -133,8 +133,7 @@ module _ (report : List ℕ) where
       go : Dec (m < n) → n ≤ m
       go (yes l) =
           let good = other .all-good m l in
-          let z : _≡_ {A = ℕ} 0 1 = cc (bad .not-good) in
-          absurd (omega arith)
+          absurd (false≢true (cc))
       go (no l) = omega arith
 
   -- Every report is well formed or has a first bad group,
@@ -146,14 +145,14 @@ module _ (report : List ℕ) where
   not-well-and-bad well bad =
       let good = well-formed-checked _ well in
       let other = first-bad-checked _ _ bad in
-      let z : _≡_ {A = ℕ} 0 1 = cc in omega arith
+      false≢true (cc)
 
   -- in one way only: with so many groups, or at that group and place.
   pub well-formed-unique : {m n : ℕ} → WellFormed report m → WellFormed report n → m ≡ n
   well-formed-unique well other = cc (well-formed-checked _ well, well-formed-checked _ other)
 
   pub first-bad-unique : {m n p q : ℕ} → FirstBad report m p → FirstBad report n q → (m ≡ n) × (p ≡ q)
-  first-bad-unique {m} {n} {p} {q} bad other =
+  first-bad-unique {m} {n} bad other =
       let same : m ≡ n = omega (arith, not-behind bad other, not-behind other bad) in
       let place : groupPlace report m ≡ groupPlace report n = ap (groupPlace report) same in
       (same, omega arith)
@@ -166,12 +165,12 @@ module _ (report : List ℕ) where
     where
       go : checked report ≡ Good m → WellOrBad report → WellFormed report m
       go e (inl (k, well)) = let same : k ≡ m = cc (well-formed-checked k well) in rw (← same) well
-      go e (inr (k, p, bad)) = let z : _≡_ {A = ℕ} 0 1 = cc (first-bad-checked k p bad) in absurd (omega arith)
+      go e (inr (k, p, bad)) = absurd (false≢true (cc (first-bad-checked k p bad)))
 
   -- and badly, at a place, just where the first bad group starts there.
   pub checked-bad : (p : ℕ) → (checked report ≡ Bad p) ↔ ((m : ℕ) × FirstBad report m p)
   checked-bad p = (λ e. go e well-formed-or-bad, λ (m, bad). first-bad-checked m p bad)
     where
       go : checked report ≡ Bad p → WellOrBad report → (m : ℕ) × FirstBad report m p
-      go e (inl (k, well)) = let z : _≡_ {A = ℕ} 0 1 = cc (well-formed-checked k well) in absurd (omega arith)
+      go e (inl (k, well)) = absurd (false≢true (cc (well-formed-checked k well)))
       go e (inr (k, q, bad)) = let same : q ≡ p = cc (first-bad-checked k q bad) in (k, rw (← same) bad)

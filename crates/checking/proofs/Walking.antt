@@ -25,7 +25,7 @@ use Rattle.checking.proofs.Marks.{greatest-none}
 
 -- a group that cannot be good is not
 refused : (report : List ℕ) (m : ℕ) → ¬ (goodGroup report m ≡ true) → goodGroup report m ≡ false
-refused report m = not-eq-not {b = false} .0
+refused report m = not-eq-not .0
 
 -- m groups are passed, the place at is reached, and the two marks were found at p and q
 pub record Walking (report : List ℕ) (e f : Mark) (table : List ℕ) (m at p q : ℕ) : Type 0 where
@@ -50,7 +50,7 @@ module _ {report : List ℕ} {e f : Mark} {table : List ℕ} {m at p q : ℕ} (w
   pub walking-end : groupSeen report at ≡ End → Whole m p q ≡ surveyed report e f
   unfolding surveyOf
   walking-end told =
-      let there : groupPlace report m ≡ length report = omega (arith, look-end report at told, walking-inside .0, w .reached) in
+      let there : groupPlace report m ≡ length report = omega (arith, look-end report at told, walking-inside .0) in
       rw (well-formed-checked report m (record { all-good = w .all-good; ends-there = there }), w .first-found, w .second-found)
 
   -- a group that is not good
@@ -116,12 +116,12 @@ module _ (report : List ℕ) (e f : Mark) where
     where
       go : (c : Checked) → checked report ≡ c → surveyOf report e f c ≡ Whole m p q → checks.Good m ≡ checked report
       go (checks.Good k) is told = let same : k ≡ m = cc in rw (is, same)
-      go (checks.Bad k) is told = absurd (let z : _≡_ {A = ℕ} 0 1 = cc in omega arith)
+      go (checks.Bad k) is told = absurd (false≢true (cc))
 
   pub survey-broken : (p : ℕ) → surveyed report e f ≡ Broken p → checks.Bad p ≡ checked report
   unfolding surveyOf
   survey-broken p told = go _ refl told
     where
       go : (c : Checked) → checked report ≡ c → surveyOf report e f c ≡ Broken p → checks.Bad p ≡ checked report
-      go (checks.Good k) is told = absurd (let z : _≡_ {A = ℕ} 0 1 = cc in omega arith)
+      go (checks.Good k) is told = absurd (false≢true (cc))
       go (checks.Bad k) is told = let same : k ≡ p = cc in rw (is, same)

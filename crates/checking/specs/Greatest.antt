@@ -4,7 +4,7 @@ use mathlib.Core.Path.{_≡_}
 use mathlib.Core.List.{List}
 use Prim.Native.Nat.{ℕ, _≤_, _<_}
 use lib.ListN.{length, getD}
-use Rattle.shape.specs.Shape.{nodeAt, numberHere}
+use Rattle.reading.specs.Reading.{nodeAt, numberHere}
 use Rattle.checking.specs.WellFormed.{groupPlace}
 
 -- for each node a number that none of its marks among the first m groups exceeds, so that one above it has no group there

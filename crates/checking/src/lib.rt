@@ -39,7 +39,7 @@ pub fn check(report: &[u8]) -> Checked
         number: MarkNumber(0),
     };
     match find(report, nobody, nobody) {
-        Survey::Whole(groups, first, second) => Checked::Good(groups),
+        Survey::Whole(groups, _, _) => Checked::Good(groups),
         Survey::Broken(place) => Checked::Bad(place),
     }
 }

@@ -2,10 +2,10 @@
 // room; the number of its bytes comes back.
 ghost use mathlib.Core.Path.{_≡_};
 ghost use lib.ListN.{length};
-ghost use Rattle.words.specs.Words.{Laid};
+ghost use Rattle.groups.specs.Groups.{Laid};
 ghost use Rattle.closing.specs.Closing.{okLine, refusedLine, tooLong};
 
-// Lays the last line of an accepted log over the front of the room, and answers how many bytes it has.
+// The last line of an accepted log.
 pub fn totals(
     events: usize,
     marks: usize,
@@ -19,7 +19,7 @@ pub fn totals(
     lay_totals(events, marks, sends, carried, room)
 }
 
-// Lays the line of a refusal over the front of the room, and answers how many bytes it has.
+// The line of a refusal.
 pub fn refusal(number: u8, place: usize, room: &mut [u8; 4096]) -> usize
     ensures { λ r. ⌜ Laid 0 (refusedLine number place) (now (room .entry)) (now (room .exit)) r ⌝ }
     ensures { λ _. ⌜ 4096 ≡ length (now (room .exit)) ⌝ }
@@ -27,7 +27,7 @@ pub fn refusal(number: u8, place: usize, room: &mut [u8; 4096]) -> usize
     lay_refusal(number, place, room)
 }
 
-// Lays the line for an input past its bound over the front of the room, and answers how many bytes it has.
+// The line for an input past its bound.
 pub fn too_long(room: &mut [u8; 4096]) -> usize
     ensures { λ r. ⌜ Laid 0 tooLong (now (room .entry)) (now (room .exit)) r ⌝ }
     ensures { λ _. ⌜ 4096 ≡ length (now (room .exit)) ⌝ }
@@ -35,7 +35,7 @@ pub fn too_long(room: &mut [u8; 4096]) -> usize
     words::word(b"too long\n", 0, room)
 }
 
-// Lays the totals of an accepted log over the front of the room.
+// The line of `totals`, over a slice of 4,096 bytes.
 fn lay_totals(events: usize, marks: usize, sends: usize, carried: usize, room: &mut [u8]) -> usize
     requires { ⌜ length (now room) ≡ 4096 ⌝ }
     ensures { λ r. ⌜ Laid 0 (okLine events marks sends carried) (now (room .entry)) (now (room .exit)) r ⌝ }
@@ -47,7 +47,7 @@ fn lay_totals(events: usize, marks: usize, sends: usize, carried: usize, room: &
     words::counted(carried, b" carried\n", at, room)
 }
 
-// Lays the number and the place of a refusal over the front of the room.
+// The line of `refusal`, over a slice of 4,096 bytes.
 fn lay_refusal(number: u8, place: usize, room: &mut [u8]) -> usize
     requires { ⌜ length (now room) ≡ 4096 ⌝ }
     ensures { λ r. ⌜ Laid 0 (refusedLine number place) (now (room .entry)) (now (room .exit)) r ⌝ }

@@ -71,7 +71,7 @@ module _ (m : ℕ) (s t : ℕ → ℕ) where
       decides (exceeds m s t)
       (λ h. let (k, l, e) = found (λ k. ltb (t k) (s k)) m (sym (exceeds-anywhere s t m) ∙ h) in (k, l, ltb-true _ _ e))
       (λ h k l. ltb-false _ _ (unfound (λ k. ltb (t k) (s k)) m (sym (exceeds-anywhere s t m) ∙ h) k l))
-      (λ a b. omega (arith, a .2, b (a .0) (a .1)))
+      (λ a b. omega (arith, b (a .0) (a .1)))
 
   -- the answer to the second
   differing : ((differs m s t ≡ true) ↔ ((k : ℕ) × (k < m) × (s k ≢ t k))) × ((differs m s t ≡ false) ↔ ((k : ℕ) → k < m → s k ≡ t k))

@@ -4,6 +4,7 @@
 -- Assumes nothing.
 use mathlib.Core.Path.{_≡_, refl, sym, _∙_, ap}
 use mathlib.Core.Logic.{_⊎_, inl, inr, _↔_, ⊎-elim}
+use mathlib.Core.Bool.{false≢true}
 use mathlib.Core.List.{List}
 use Prim.Native.Nat.{ℕ, _≤_, _<_}
 use native.Mathlib.Decide.{decLt}
@@ -17,7 +18,7 @@ use Rattle.checking.proofs.Walked.{good-inside, well-formed-checked, first-bad-
 use Rattle.checking.proofs.Marks.{among-some, among-at}
 use Rattle.comparing.specs.declared.Compared.{Compared}
 use Rattle.comparing.specs.declared.Compared.the-variants.{Before, After, Apart, NotWellFormed, FirstAbsent, SecondAbsent}
-use Rattle.comparing.specs.Compare.{numberOf, stampOf, ordered, compared, swapped}
+use Rattle.comparing.specs.Compare.{numberOf, stampOf, ordered, compared}
 use Rattle.comparing.specs.Table.{HasGroup, NoGroup, Compares, compares-14, compares-15, compares-16, compares-before, compares-after, compares-apart}
 use Rattle.comparing.proofs.Ordering.{Says, says-before, says-after, says-apart, ordered-says, ordered-under, ordered-over, ordered-neither}
 use Rattle.comparing.proofs.Answering.{answer-broken, answer-first, answer-second, answer-ordered}
@@ -116,6 +117,15 @@ module _ (report : List ℕ) (e f : Mark) where
 
 -- ---- the marks exchanged
 
+-- before and after exchanged; every other answer as it is
+abbrev pub swapped : Compared → Compared
+swapped Before = After
+swapped After = Before
+swapped Apart = Apart
+swapped (NotWellFormed p) = NotWellFormed p
+swapped FirstAbsent = FirstAbsent
+swapped SecondAbsent = SecondAbsent
+
 module _ (report : List ℕ) where
   -- Where no mark is absent, the answer is exchanged with the marks:
   pub compare-swapped : (e f : Mark) → (numberOf (compared report e f) ≡ 0) ⊎ (numberOf (compared report e f) ≡ 14)
@@ -176,8 +186,8 @@ module _ (report : List ℕ) where
     -- It is neither before nor after,
     pub self-unordered : (¬ (compared report e e ≡ Before)) × (¬ (compared report e e ≡ After))
     self-unordered = (
-      λ is. let after = before-after e e .0 is in let z : _≡_ {A = ℕ} 0 1 = cc in omega arith,
-      λ is. let before = before-after e e .1 is in let z : _≡_ {A = ℕ} 0 1 = cc in omega arith,
+      λ is. let after = before-after e e .0 is in false≢true (cc),
+      λ is. let before = before-after e e .1 is in false≢true (cc),
     )
 
     -- but apart, unless the report is not well formed or the mark is absent, as the first.

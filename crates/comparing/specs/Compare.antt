@@ -67,12 +67,3 @@ comparedIn report e f (Bad p) = NotWellFormed p
 
 abbrev pub compared : List ℕ → Mark → Mark → Compared
 compared report e f = comparedIn report e f (checked report)
-
--- before and after exchanged; every other answer as it is
-abbrev pub swapped : Compared → Compared
-swapped Before = After
-swapped After = Before
-swapped Apart = Apart
-swapped (NotWellFormed p) = NotWellFormed p
-swapped FirstAbsent = FirstAbsent
-swapped SecondAbsent = SecondAbsent

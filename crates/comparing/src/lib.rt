@@ -8,13 +8,14 @@ ghost use Rattle.reading.specs.Reading.{stampAt};
 ghost use Rattle.comparing.specs.Compare.{compared, ordered};
 ghost use Rattle.comparing.specs.Judged.{judged};
 
-// The answer to comparing two marks.
+// The answer to comparing two marks, by their stamps. In the report of an accepted log, before says that the first mark led to the
+// second.
 pub enum Compared {
-    // The first mark led to the second.
+    // No count of the first stamp exceeds the second's, and some count differs.
     Before,
-    // The second mark led to the first.
+    // The other way round.
     After,
-    // Neither led to the other.
+    // Neither.
     Apart,
     // The report is not well formed; the place of its first bad group.
     NotWellFormed(usize),
@@ -30,7 +31,7 @@ pub fn compare(report: &[u8], first: Mark, second: Mark) -> Compared
 {
     match checking::find(report, first, second) {
         Survey::Broken(place) => Compared::NotWellFormed(place),
-        Survey::Whole(groups, first_at, second_at) => {
+        Survey::Whole(_, first_at, second_at) => {
             if report.len() <= first_at {
                 return Compared::FirstAbsent;
             }
@@ -55,14 +56,14 @@ fn weigh(report: &[u8], first: usize, second: usize) -> Compared
     while k < 32 {
         let a = reading::count_at(report, one, k);
         let b = reading::count_at(report, other, k);
-        if a > b {
+        if a.count > b.count {
             more = true;
         }
-        if a < b {
+        if a.count < b.count {
             less = true;
         }
-        one = reading::past_count(report, one, k);
-        other = reading::past_count(report, other, k);
+        one = a.past;
+        other = b.past;
         k += 1;
     }
     judge(more, less)

@@ -14,9 +14,9 @@ use lib.Seq.{drop-cons}
 use Rattle.machine.specs.Answer.{Ascending, ascending-nil, ascending-cons}
 use Rattle.groups.specs.Groups.{fourBytes, stampRecord, stampRecords, causeRecords, groupOf}
 use Rattle.groups.proofs.Records.{stamp-some}
-use Rattle.reading.specs.Reading.{wholeAt, stampHere, countAt, pastCount, stampPlace, stampAt, causesAt, causePlace, causeCount, answerAt}
+use Rattle.reading.specs.Reading.{nodeAt, numberHere, wholeAt, stampHere, countAt, pastCount, stampPlace, stampAt, causesAt, causePlace, causeCount, answerAt}
 use Rattle.reading.proofs.Standing.{whole-fits, whole-begins, stamp-there, count-there, count-missing, past-there, past-missing}
-use Rattle.shape.specs.Shape.{nodeAt, numberHere, stampFits, causesFit, groupFits, pastGroup}
+use Rattle.shape.specs.Shape.{stampFits, causesFit, groupFits, pastGroup}
 use Rattle.shape.specs.Fits.{Fits}
 use Rattle.shape.proofs.Entries.{Entry, causes-there}
 use Rattle.shape.proofs.FittingGroup.{counts-there, count-within, group-parts}
@@ -47,7 +47,7 @@ module _ (report : List ℕ) where
           let node : k ≡ nodeAt report p = ap (λ (x : ℕ × ℕ). x .0) here in
           let number : c ≡ numberHere report p = ap (λ (x : ℕ × ℕ). x .1) here in
           rw (node, number) (first .ascends, first .below, first .some, first .most)
-      go first later (inr m) = let (ascends, below, some, most) = later m in (omega (arith, first .ascends), below, some, most)
+      go first later (inr m) = let (ascends, below, some, most) = later m in (omega arith, below, some, most)
 
   -- their nodes ascend
   causes-ascend : (p low d : ℕ) → causesFit report p low d ≡ true → Ascending (causesAt report p d)
@@ -87,7 +87,7 @@ module _ (report : List ℕ) (bytes : (p : ℕ) → getD report p 0 < 256) where
       let three : p + 2 + 1 ≡ p + 3 = omega arith in
       let four : p + 3 + 1 ≡ p + 4 = omega arith in
       let low : numberHere report p % 256 ≡ getD report (p + 2) 0 = omega (arith, bytes (p + 2)) in
-      let high : numberHere report p / 256 ≡ getD report (p + 2 + 1) 0 = omega (arith, bytes (p + 2)) in
+      let high : numberHere report p / 256 ≡ getD report (p + 2 + 1) 0 = omega arith in
       rw (low, high, byte-back p (omega arith), byte-back (p + 1) (omega arith), two, byte-back (p + 2) (omega arith), three, byte-back (p + 3) (omega arith), four)
 
   -- the first four bytes of a whole record are those of its kind, its node and its number
@@ -137,7 +137,6 @@ module _ (report : List ℕ) (bytes : (p : ℕ) → getD report p 0 < 256) where
   unfolding answerAt groupOf pastGroup
   read-back p e =
       let told = group-parts e in
-      let inside = told .head .inside in
       let five : p + 4 + 1 ≡ p + 5 = omega arith in
       rw (
         told .own-count,

@@ -12,14 +12,14 @@ use Rattle.machine.specs.Answer.{Answer, answers}
 use Rattle.groups.specs.Groups.{laid, groupsOf}
 use Rattle.passes.specs.Report.{reportOf}
 use Rattle.text.specs.declared.Line.the-variants.{Written}
-use Rattle.text.specs.Text.{answerLine, lineAt}
+use Rattle.text.specs.Text.{lineOf, lineAt}
 use Rattle.text.proofs.Lines.{line-of-answer}
 use Rattle.comparisons.proofs.OwnAnswers.{own-writable, own-groups}
 
 -- the line of each answer is laid where its group stands, and the place of the next group is answered
 pub own-line : {n : ℕ} {cut : List Event} → Lawful n cut → (done rest : List Answer) (a : Answer) → answers n full cut ≡ done ++ (a ∷ rest)
     → (room : List ℕ) → lineAt n (reportOf n cut) (length (groupsOf n done)) room
-    ≡ (Written (length (answerLine n a)) (length (groupsOf n (done ++ (a ∷ [])))), laid 0 (answerLine n a) room)
+    ≡ (Written (length (lineOf n a)) (length (groupsOf n (done ++ (a ∷ [])))), laid 0 (lineOf n a) room)
 unfolding reportOf
 own-line {n} lawful done rest a is room =
     let fits = own-writable lawful .each-fits a (rw is (Memᴰ·append-right done (List·Memᴰ·head refl))) in

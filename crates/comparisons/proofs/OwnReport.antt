@@ -24,12 +24,13 @@ use Rattle.shape.specs.Fits.{markOf}
 use Rattle.checking.specs.declared.Checked.the-variants.{Good}
 use Rattle.checking.specs.WellFormed.{placeAmong, WellFormed}
 use Rattle.checking.specs.Surveyed.{checked}
+use Rattle.checking.proofs.Walked.{well-formed-checked}
 use Rattle.comparing.specs.declared.Compared.the-variants as variants
 use Rattle.comparing.specs.Compare.{numberOf, ordered, comparedAt, comparedIn, compared}
 use Rattle.comparing.proofs.Ordering.{ordered-same, ordered-number}
 use Rattle.comparisons.specs.Written.{IsTo}
 use Rattle.comparisons.specs.OwnReport.{IsMark, HasMark}
-use Rattle.comparisons.proofs.Written.{written-well-formed, written-checked, written-found, written-absent}
+use Rattle.comparisons.proofs.Written.{written-well-formed, written-found, written-absent}
 use Rattle.comparisons.proofs.OwnAnswers.{own-writable, own-groups}
 use Rattle.comparisons.proofs.StampedOrder.{ordered-before, ordered-after, ordered-apart}
 
@@ -77,7 +78,7 @@ module _ {n : ℕ} {cut : List Event} (lawful : Lawful n cut) where
 
   own-checked : checked (reportOf n cut) ≡ Good (length told)
   unfolding told
-  own-checked = rw own-bytes (written-checked (own-writable lawful))
+  own-checked = well-formed-checked (reportOf n cut) _ own-well-formed
 
   -- ---- one mark
 
@@ -155,9 +156,9 @@ module _ {n : ℕ} {cut : List Event} (lawful : Lawful n cut) where
   outcome e f = go (own-found e) (own-found f)
     where
       go : Found e → Found f → Outcome e f (numberOf (compared (reportOf n cut) e f))
-      go (unfound none away) g = no-first none (rw (compared-there e f, le-leb (length (reportOf n cut)) (placeOf e) (omega (arith, away))))
+      go (unfound none away) g = no-first none (rw (compared-there e f, le-leb (length (reportOf n cut)) (placeOf e) (omega arith)))
       go (found {p = p} first right inside stamp) (unfound none away) =
-          no-second (p, first) none (rw (compared-there e f, lt-leb _ _ inside, le-leb (length (reportOf n cut)) (placeOf f) (omega (arith, away))))
+          no-second (p, first) none (rw (compared-there e f, lt-leb _ _ inside, le-leb (length (reportOf n cut)) (placeOf f) (omega arith)))
       go (found {p = p} first right inside stamp) (found {p = q} second right′ inside′ stamp′) =
           let (a, b, r, s, told) = own-ordered e f first second in
           both-there (p, first) (q, second) (ap numberOf told ∙ ordered-number (a .stamp) (b .stamp))

@@ -10,8 +10,7 @@ use Rattle.order.specs.Order.{Event, Before}
 use Rattle.verdict.specs.Verdict.{accepted}
 use Rattle.verdict.specs.Lawful.{Lawful}
 use Rattle.verdict.specs.Table.{Row}
-use Rattle.verdict.proofs.Verdict.{row-verdict, row-unique}
-use Rattle.verdict.proofs.Accepted.{accepted-lawful}
+use Rattle.verdict.proofs.Accepted.{row-lawful}
 use Rattle.machine.specs.Machine.{full}
 use Rattle.machine.specs.Answer.{answers}
 use Rattle.machine.proofs.Totals.{answers-many}
@@ -19,11 +18,10 @@ use Rattle.room.specs.declared.Mode.{Mode}
 use Rattle.room.specs.Modes.{says}
 use Rattle.groups.specs.Groups.{groupsOf}
 use Rattle.report.specs.declared.Answer as run
-use Rattle.report.specs.declared.Answer.the-variants.{Accepted}
 use Rattle.passes.specs.Report.{reportOf, tallyOf}
 use Rattle.report.specs.Run.{totalsOf, Ran}
 use Rattle.report.specs.Run as told
-use Rattle.demands.proofs.Refusals.{laid-front, run-completed}
+use Rattle.demands.proofs.Refusals.{laid-front, run-with}
 use Rattle.demands.proofs.ListedMarks.{answers-right}
 use Rattle.demands.proofs.Arrows.{report-only}
 use Rattle.shape.specs.declared.Mark.{Mark}
@@ -37,7 +35,7 @@ module _ {mode : Mode} {log counts words mail report counts′ words′ mail′ 
     (ran : Ran mode log counts words mail report counts′ words′ mail′ report′ r) (here : told.numberOf r ≡ 0)
     {n : ℕ} {cut : List Event} (row : Row log (accepted n cut)) where
   lawful : Lawful n cut
-  lawful = accepted-lawful log n cut (row-verdict log row)
+  lawful = row-lawful row
 
   -- the report that the run left is the log's own
   left : ownReport r report′ ≡ reportOf n cut
@@ -49,13 +47,7 @@ module _ {mode : Mode} {log counts words mail report counts′ words′ mail′ 
   -- the total of marks is the number of their answers
   marks-many : totalsOf r .marks ≡ length (answers n full cut)
   unfolding tallyOf
-  marks-many = let (m, past, done) = run-completed ran here in go m past (row-unique log row (done .accepted-is)) (done .answer-is)
-    where
-      go : (m : ℕ) (past : List Event) → accepted n cut ≡ accepted m past → r ≡ Accepted (length log) (tallyOf mode m past) → totalsOf r .marks ≡ length (answers n full cut)
-      go m past same is =
-          let nodes : n ≡ m = cc in
-          let events : cut ≡ past = cc in
-          rw (is, ← nodes, ← events) (sym (answers-many n (says mode) full cut))
+  marks-many = rw (run-with ran here row .answer-is) (sym (answers-many n (says mode) full cut))
 
   -- It is well formed, with a group for each mark of the log,
   pub run-well-formed : WellFormed (ownReport r report′) (totalsOf r .marks)

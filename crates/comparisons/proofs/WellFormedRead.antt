@@ -13,8 +13,8 @@ use borrow.Author.Tests.{eq-eqb}
 use Rattle.machine.specs.Answer.{Answer}
 use Rattle.groups.specs.Groups.{groupsOf}
 use Rattle.groups.proofs.GroupsSame.{groups-more}
-use Rattle.reading.specs.Reading.{answerAt}
-use Rattle.shape.specs.Shape.{numberHere, markHere}
+use Rattle.reading.specs.Reading.{numberHere, answerAt}
+use Rattle.shape.specs.Shape.{markHere}
 use Rattle.shape.specs.Fits.{Fits}
 use Rattle.shape.proofs.FittingGroup.{group-parts}
 use Rattle.checking.specs.WellFormed.{sameMark, groupPlace, AllGood, WellFormed}

@@ -2,15 +2,12 @@
 -- answer's mark, with its stamp, and of no other mark: each group stands where those before it end, and no mark has two.
 -- Assumes nothing.
 use mathlib.Core.Path.{_≡_, refl, sym, ap, _∙_}
-use mathlib.Core.Logic.{_⊎_, inl, inr}
 use mathlib.Core.Bool.{true, false, not-eq-not}
 use mathlib.Core.List.{List, [], _∷_, List·Memᴰ, List·Memᴰ·head, List·Memᴰ·tail}
 use Prim.Native.Nat.{ℕ, zero, suc, _+_, _≤_, _<_}
-use native.Mathlib.Nat.{eq-or-lt-of-le}
 use native.Mathlib.Omega.{arith}
 use lib.ListN.{length, getD, take, drop, length-append}
 use lib.Seq.{split-at, take-suc, take-length}
-use borrow.Author.Tests.{eq-eqb}
 use Rattle.machine.specs.Answer.{Answer}
 use Rattle.groups.specs.Groups.{groupOf, groupsOf}
 use Rattle.groups.proofs.GroupsSame.{groups-more}
@@ -20,11 +17,9 @@ use Rattle.shape.specs.declared.Mark.{Mark}
 use Rattle.shape.specs.Shape.{groupFits, markHere}
 use Rattle.shape.specs.Fits.{Fits, markOf}
 use Rattle.shape.proofs.GroupWritten.{group-mark, group-past, group-fits}
-use Rattle.checking.specs.declared.Checked.the-variants.{Good}
 use Rattle.checking.specs.WellFormed.{sameMark, groupPlace, placeAmong, goodGroup, WellFormed}
-use Rattle.checking.specs.Surveyed.{checked}
-use Rattle.checking.proofs.Walked.{good-whole, good-inside, checked-good}
-use Rattle.checking.proofs.Marks.{mark-number, mark-one, among-here, among-earlier, among-none}
+use Rattle.checking.proofs.Walked.{good-whole, good-inside}
+use Rattle.checking.proofs.Marks.{mark-one, among-none, among-at}
 use Rattle.comparisons.specs.Written.{IsTo, SameMark, NoneTwice, none-twice-nil, none-twice-cons, Writable}
 
 -- ---- the answers by their places
@@ -56,13 +51,9 @@ two-marks (none-twice-cons first others) (suc i) (suc j) l h = two-marks others 
 
 -- ---- marks as they are compared
 
--- an answer is to its own mark
-mark-same : (a : Answer) → sameMark (markOf a) (markOf a) ≡ true
-mark-same a = mark-number (markOf a) (markOf a) refl ∙ eq-eqb (a .stamp (a .node)) _ refl
-
--- and to no other
+-- an answer is to no other mark than its own
 mark-other : (a : Answer) (e : Mark) → ¬ IsTo a e → sameMark (markOf a) e ≡ false
-mark-other a e other = not-eq-not {b = false} .0 (λ same. other (mark-one (markOf a) e same))
+mark-other a e other = not-eq-not .0 (λ same. other (mark-one (markOf a) e same))
 
 -- ---- the groups
 
@@ -112,33 +103,17 @@ module _ {told : List Answer} (written : Writable told) where
       → placeAmong (groupsOf 32 told) m e ≡ length (groupsOf 32 told)
   none-among e m h other = among-none (groupsOf 32 told) e m (λ i l. rw (mark-at i (omega arith)) (mark-other (answerIn told i) e (other i l)))
 
-  -- and the group of an answer's mark is the answer's own
-  found-among : (j m : ℕ) → j < m → m ≤ length told → placeAmong (groupsOf 32 told) m (markOf (answerIn told j)) ≡ groupPlace (groupsOf 32 told) j
-  found-among j zero l h = absurd (omega arith)
-  found-among j (suc m) l h = go (λ k. found-among j m k (omega arith)) (eq-or-lt-of-le (omega arith))
-    where
-      go : (j < m → placeAmong (groupsOf 32 told) m (markOf (answerIn told j)) ≡ groupPlace (groupsOf 32 told) j) → (j ≡ m) ⊎ (j < m)
-          → placeAmong (groupsOf 32 told) (suc m) (markOf (answerIn told j)) ≡ groupPlace (groupsOf 32 told) j
-      go earlier (inl e) = rw e (among-here (groupsOf 32 told) _ m (rw (mark-at m h) (mark-same (answerIn told m))))
-      go earlier (inr k) =
-          let other : ¬ SameMark (answerIn told m) (answerIn told j) = λ s. two-marks (written .none-twice) j m k h (sym (s .0), sym (s .1)) in
-          among-earlier (groupsOf 32 told) _ m (rw (mark-at m h) (mark-other (answerIn told m) (markOf (answerIn told j)) other)) ∙ earlier k
-
   -- ---- the report
 
   -- each group is good
   good-there : (j : ℕ) → j < length told → goodGroup (groupsOf 32 told) j ≡ true
   good-there j h =
-      let few = written .few in
       let none = none-among (markOf (answerIn told j)) j (omega arith) (λ i l. two-marks (written .none-twice) i j l h) in
       good-whole (groupsOf 32 told) j (omega arith) (fits-at j h) (rw (mark-at j h) (omega arith))
 
-  -- It is well formed, with a group for each answer, and is found so.
+  -- It is well formed, with a group for each answer.
   pub written-well-formed : WellFormed (groupsOf 32 told) (length told)
   written-well-formed = record { all-good = good-there; ends-there = place-end }
-
-  pub written-checked : checked (groupsOf 32 told) ≡ Good (length told)
-  written-checked = checked-good (groupsOf 32 told) (length told) .1 written-well-formed
 
   -- The mark of an answer has its group there, with the answer's stamp.
   pub written-found : {a : Answer} → List·Memᴰ a told → let report = groupsOf 32 told in let q = placeAmong report (length told) (markOf a) in
@@ -146,7 +121,7 @@ module _ {told : List Answer} (written : Writable told) where
   written-found m =
       let (j, h, e) = listed-at m in
       let (on, inside) = good-inside (groupsOf 32 told) j (good-there j h) in
-      rw (← e, found-among j (length told) h (omega arith)) (omega arith, stamp-at j h)
+      rw (← e, among-at (groupsOf 32 told) _ (length told) j good-there h (mark-at j h)) (omega arith, stamp-at j h)
 
   -- A mark that no answer is to has none.
   pub written-absent : (e : Mark) → ((a : Answer) → List·Memᴰ a told → ¬ IsTo a e)

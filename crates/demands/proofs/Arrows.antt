@@ -5,11 +5,10 @@ use mathlib.Core.Path.{_≡_, refl, sym, _∙_, ap}
 use mathlib.Core.List.{List, [], _++_, append-assoc, List·Memᴰ, List·Memᴰ·head, List·Memᴰ·tail}
 use Prim.Native.Nat.{ℕ}
 use lib.ListN.{length, take}
-use Rattle.order.specs.Order.{Event, mark, At, Sound}
+use Rattle.order.specs.Order.{Event, mark, At}
 use Rattle.verdict.specs.Verdict.{accepted}
 use Rattle.verdict.specs.Table.{Row}
-use Rattle.verdict.proofs.Verdict.{row-verdict, row-unique}
-use Rattle.verdict.proofs.Accepted.{accepted-lawful}
+use Rattle.verdict.proofs.Accepted.{row-lawful}
 use Rattle.machine.specs.Machine.{full}
 use Rattle.machine.specs.Answer.{Answer, answers, Right}
 use Rattle.room.specs.declared.Mode.{Mode}
@@ -18,12 +17,8 @@ use Rattle.report.specs.declared.Answer as run
 use Rattle.passes.specs.Report.{reportOf}
 use Rattle.report.specs.Run.{numberOf, totalsOf, Ran}
 use Rattle.demands.specs.Demands.{marksOf, Each}
-use Rattle.demands.proofs.Refusals.{laid-front, run-completed, report-filled}
+use Rattle.demands.proofs.Refusals.{laid-front, run-completed, run-with, report-filled}
 use Rattle.demands.proofs.ListedMarks.{marks-listed, each-partner, answers-right, answers-only}
-
--- the events of an accepted log are sound
-pub accepted-sound : {log : List ℕ} {n : ℕ} {cut : List Event} → Row log (accepted n cut) → Sound n cut
-accepted-sound {log} {n} {cut} row = accepted-lawful log n cut (row-verdict log row) .sound
 
 -- the group of an answer stands among the groups
 groups-part : (n : ℕ) {told : List Answer} {a : Answer} → List·Memᴰ a told → (front behind : List ℕ) × (groupsOf n told ≡ front ++ (groupOf n a ++ behind))
@@ -42,29 +37,22 @@ module _ {mode : Mode} {log counts words mail report counts′ words′ mail′ 
   unfolding reportOf
   report-true =
       let (n, cut, done) = run-completed ran here in
-      (n, cut, answers n full cut, done .accepted-is, answers-right (accepted-sound (done .accepted-is)), done .report-laid, report-filled done .0)
+      (n, cut, answers n full cut, done .accepted-is, answers-right (row-lawful (done .accepted-is) .sound), done .report-laid, report-filled done .0)
 
   -- Whatever answers are right for the marks of the log, their groups are the report.
   pub report-only : {n : ℕ} {cut : List Event} {told : List Answer} → Row log (accepted n cut) → Each (Right cut) (marksOf cut) told
       → (report′ ≡ laid 0 (groupsOf n told) report) × (totalsOf r .bytes ≡ length (groupsOf n told))
-  report-only {n} {cut} {told} row each = let (m, past, said, there, other, is, size) = report-true in go m past said there other is size
-    where
-      go : (m : ℕ) (past : List Event) (said : List Answer) → Row log (accepted m past) → Each (Right past) (marksOf past) said
-          → report′ ≡ laid 0 (groupsOf m said) report → totalsOf r .bytes ≡ length (groupsOf m said)
-          → (report′ ≡ laid 0 (groupsOf n told) report) × (totalsOf r .bytes ≡ length (groupsOf n told))
-      go m past said there other is size =
-          let same : accepted n cut ≡ accepted m past = row-unique log row there in
-          let nodes : n ≡ m = cc in
-          let events : cut ≡ past = cc in
-          let answers : told ≡ said = answers-only (rw events at each) other in
-          rw (nodes, answers) (is, size)
+  unfolding reportOf
+  report-only row each =
+      let done = run-with ran here row in
+      rw (answers-only each (answers-right (row-lawful row .sound))) (done .report-laid, report-filled done .0)
 
   -- Every mark of the log has its group in the report, with its stamp and its direct predecessors.
   pub mark-reported : {n : ℕ} {cut : List Event} {p i : ℕ} → Row log (accepted n cut) → At cut p (mark i)
       → (a : Answer) × Right cut p a × (front behind : List ℕ) × (take (totalsOf r .bytes) report′ ≡ front ++ (groupOf n a ++ behind))
   mark-reported {n} {cut} {p} {i} row there =
       let told = answers n full cut in
-      let each = answers-right (accepted-sound row) in
+      let each = answers-right (row-lawful row .sound) in
       let (is, size) = report-only row each in
       let (a, listed, right) = each-partner each (marks-listed cut p .1 (i, there)) in
       let (front, behind, parts) = groups-part n listed in

@@ -4,21 +4,17 @@ use mathlib.Core.Path.{_≡_, refl}
 use mathlib.Core.Bool.{Bool, true, false, false≢true, _&&_}
 use mathlib.Core.List.{List, [], _∷_}
 use Prim.Native.Nat.{ℕ, zero, suc, _^_, _<_}
-use native.Mathlib.Decide.{decLt}
 use native.Mathlib.Omega.{arith}
 use lib.Dec.{ltb}
-use lib.ListN.{getD, replicate, length-replicate, getD-replicate, List·getD-eq-default}
+use lib.ListN.{getD, replicate}
 use borrow.Author.Tests.{ltb-true}
 use Rattle.room.specs.declared.Mode.{Mode}
+use Rattle.room.proofs.StartRoom.{zeros-read}
 use Rattle.demands.specs.Demands.{Roomy, Input, Below, Given}
 
 -- zeros are numbers of any type
 below-zeros : (bound n : ℕ) → 0 < bound → Below bound (replicate n 0)
-below-zeros bound n some p = go (decLt p n)
-  where
-    go : Dec (p < n) → getD (replicate n 0) p 0 < bound
-    go (yes h) = rw (getD-replicate {A = ℕ} n p 0 0 h) some
-    go (no h) = rw (List·getD-eq-default {A = ℕ} (replicate n 0) 0 {n = p} (omega (arith, length-replicate {A = ℕ} n 0))) some
+below-zeros bound n some p = rw (zeros-read n p) some
 
 -- a list whose elements pass the test
 abbrev pub allBelow : ℕ → List ℕ → Bool
@@ -57,7 +53,7 @@ sample-given mode log size h =
 pub sample-roomy : Roomy (replicate 1024 0) (replicate 1056 0) (replicate 4480 0)
 sample-roomy =
     record {
-      counts-fit = omega (arith, length-replicate {A = ℕ} 1024 0);
-      words-fit = omega (arith, length-replicate {A = ℕ} 1056 0);
-      mail-fits = omega (arith, length-replicate {A = ℕ} 4480 0);
+      counts-fit = omega arith;
+      words-fit = omega arith;
+      mail-fits = omega arith;
     }

@@ -14,32 +14,20 @@ use borrow.Author.Tests.{lt-ltb}
 use Rattle.order.specs.Order.{Event, send, Flying, flying-head, flying-tail, Sound}
 use Rattle.order.specs.Flight.{Message}
 use Rattle.order.proofs.Flight.{message}
-use Rattle.verdict.proofs.Verdict.{row-verdict}
-use Rattle.verdict.proofs.Accepted.{accepted-lawful}
-use Rattle.machine.specs.Machine.{Entry, absent, present, Letter}
+use Rattle.verdict.proofs.Accepted.{row-lawful}
+use Rattle.machine.specs.Machine.{Entry, absent, present}
 use Rattle.machine.specs.Short.{columns}
 use Rattle.machine.specs.History.{Due}
 use Rattle.machine.proofs.ShortMessages.{flight-exactly}
+use Rattle.cells.specs.Cells.{codeOf}
 use Rattle.room.specs.declared.Mode.{Mode}
 use Rattle.room.specs.declared.Mode.the-variants.{Short}
 use Rattle.room.specs.Slots.{Slot, slotAt, slots}
 use Rattle.room.specs.Room.{barn, element}
-use Rattle.room.proofs.Slots.{slot-flies, flying-slot}
-use Rattle.room.proofs.LawfulSlots.{slot-below}
+use Rattle.room.proofs.Slots.{slot-flies}
+use Rattle.room.proofs.LawfulSlots.{flying-lies}
 use Rattle.report.specs.declared.Answer.{Answer}
 use Rattle.demands.specs.Demands.{Completed, Lies, EntryAt}
-
--- an entry as the mail has it
-abbrev code : Entry → ℕ
-code absent = 0
-code (present c x) = 2 * c + cond x 1 0
-
--- the element of a slot for node k is the letter's entry
-entry-code : (n : ℕ) (letter : ℕ → Letter) (x : Message) (k : ℕ) → k < n → (e : Entry) → letter (x .number) .entry k ≡ e
-    → element n letter (some x) (suc (suc (suc k))) ≡ code e
-unfolding element
-entry-code n letter x k below absent h = rw (lt-ltb k n below, h)
-entry-code n letter x k below (present c y) h = rw (lt-ltb k n below, h)
 
 module _ {mode : Mode} {log : List ℕ} {n : ℕ} {cut : List Event} {report counts′ words′ mail′ report′ : List ℕ} {r : Answer}
     (done : Completed mode log n cut report counts′ words′ mail′ report′ r) where
@@ -62,21 +50,16 @@ module _ {mode : Mode} {log : List ℕ} {n : ℕ} {cut : List Event} {report cou
 
   -- with its letter's entry for each node
   mail-entry : (s : ℕ) → s < 128 → (x : Message) → slotAt (slots cut) s ≡ some x → (k : ℕ) → k < n
-      → getD mail′ (35 * s + 3 + k) 0 ≡ code (barn mode cut .state .letter (x .number) .entry k)
+      → getD mail′ (35 * s + 3 + k) 0 ≡ codeOf (barn mode cut .state .letter (x .number) .entry k)
+  unfolding element
   mail-entry s few x there k below =
       let here : 35 * s + 3 + k ≡ 35 * s + suc (suc (suc k)) = omega arith in
-      let nodes = accepted-lawful log n cut (row-verdict log (done .accepted-is)) .few-nodes in
-      rw here (mail-at s (suc (suc (suc k))) few (omega arith) ∙ rw there (entry-code n (barn mode cut .state .letter) x k below _ refl))
-
-  -- a message in flight has a slot
-  flying-below : {m i j p : ℕ} → Flying m i j cut p → (s : ℕ) × (s < 128) × (slotAt (slots cut) s ≡ some (message m i j p))
-  flying-below flies =
-      let (s, there) = flying-slot flies in
-      (s, slot-below (accepted-lawful log n cut (row-verdict log (done .accepted-is))) s there, there)
+      let nodes = row-lawful (done .accepted-is) .few-nodes in
+      rw here (mail-at s (suc (suc (suc k))) few (omega arith) ∙ rw (there, lt-ltb k n below))
 
   -- Each message in flight lies in the mail,
   pub mail-flying : {m i j p : ℕ} → Flying m i j cut p → (s : ℕ) × Lies mail′ s i j m
-  mail-flying {m} {i} {j} {p} flies = let (s, few, there) = flying-below flies in (s, mail-lies s few (message m i j p) there)
+  mail-flying {m} {i} {j} {p} flies = let (s, few, there) = flying-lies (row-lawful (done .accepted-is)) flies in (s, mail-lies s few (message m i j p) there)
 
   -- and nothing else: each slot has a message that is in flight, or is all zero.
   pub mail-left : (s : ℕ) → s < 128 → ((m i j p : ℕ) × Flying m i j cut p × Lies mail′ s i j m) ⊎ ((x : ℕ) → x < 35 → getD mail′ (35 * s + x) 0 ≡ 0)
@@ -102,7 +85,7 @@ code-parts d c false false h = (omega arith, refl)
 code-parts d c true false h = absurd (omega arith)
 code-parts d c false true h = absurd (omega arith)
 
-code-only : (e : Entry) (c : ℕ) (x : Bool) → 0 < c → code e ≡ 2 * c + cond x 1 0 → e ≡ present c x
+code-only : (e : Entry) (c : ℕ) (x : Bool) → 0 < c → codeOf e ≡ 2 * c + cond x 1 0 → e ≡ present c x
 code-only absent c x above h = absurd (omega arith)
 code-only (present d y) c x above h = let same = code-parts d c y x h in rw (same .0, same .1)
 
@@ -120,7 +103,7 @@ module _ {log : List ℕ} {n : ℕ} {cut : List Event} {report counts′ words�
       → (s : ℕ) × (later past : List Event) × (cut ≡ later ++ (send i j m ∷ past)) × (p ≡ length past) × Lies mail′ s i j m
       × ((k c : ℕ) (x : Bool) → k < n → 0 < c → EntryAt mail′ s k c x ↔ Due columns past i j k c x)
   mail-due {m} {i} {j} {p} flies =
-      let (s, few, there) = flying-below done flies in
+      let (s, few, there) = flying-lies (row-lawful (done .accepted-is)) flies in
       let (later, past, parts, place) = flying-parts flies in
       (s, later, past, parts, place, mail-lies done s few (message m i j p) there, go s few there later past parts place)
     where
@@ -128,6 +111,5 @@ module _ {log : List ℕ} {n : ℕ} {cut : List Event} {report counts′ words�
           → (k c : ℕ) (x : Bool) → k < n → 0 < c → EntryAt mail′ s k c x ↔ Due columns past i j k c x
       go s few there later past parts place k c x below above =
           let entry = mail-entry done s few (message m i j p) there k below in
-          let sound = accepted-lawful log n cut (row-verdict log (done .accepted-is)) .sound in
-          let due = flight-due later past parts sound (rw place at flies) k c x in
-          (λ b. due .0 (code-only _ c x above (sym entry ∙ b)), λ d. entry ∙ ap code (due .1 d))
+          let due = flight-due later past parts (row-lawful (done .accepted-is) .sound) (rw place at flies) k c x in
+          (λ b. due .0 (code-only _ c x above (sym entry ∙ b)), λ d. entry ∙ ap codeOf (due .1 d))

@@ -71,7 +71,7 @@ module _ {A B : Type 0} {R : A → B → Type 0} where
   -- an element on the left has its partner on the right
   pub each-partner : {xs : List A} {ys : List B} {x : A} → Each R xs ys → List·Memᴰ x xs → (y : B) × List·Memᴰ y ys × R x y
   each-partner each-nil m = absurd (List·Memᴰ·not-nil m)
-  each-partner {x = x} (each-cons {y = y} h r) m =
+  each-partner (each-cons {y = y} h r) m =
       ⊎-elim (λ e. (y, List·Memᴰ·head refl, rw e h)) (λ o. let p = each-partner r o in (p .0, List·Memᴰ·tail (p .1), p .2)) (List·Memᴰ·cases-cons m)
 
 -- ---- the answers

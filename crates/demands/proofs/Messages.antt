@@ -9,9 +9,7 @@ use lib.ListN.{length}
 use lib.Seq.{getD-take}
 use Rattle.order.specs.Order.{Event, mark, send, At, Counts}
 use Rattle.order.proofs.Counts.{counts-unique}
-use Rattle.verdict.specs.Verdict.{accepted}
-use Rattle.verdict.proofs.Verdict.{row-verdict, row-unique}
-use Rattle.verdict.proofs.Accepted.{accepted-lawful}
+use Rattle.verdict.proofs.Accepted.{row-lawful}
 use Rattle.machine.specs.Short.{columns}
 use Rattle.machine.specs.History.{DueInAll}
 use Rattle.machine.proofs.Totals.{total-events, total-marks, total-sends, full-carried, short-carried, due-unique}
@@ -25,8 +23,7 @@ use Rattle.report.specs.declared.Answer.{Answer}
 use Rattle.passes.specs.Report.{tallyOf}
 use Rattle.report.specs.Run.{Ending, cramped, refusal, overlong, complete, ending, answerOf, numberOf, totalsOf, Ran}
 use Rattle.demands.specs.Demands.{Completed, SameButCarried, SameArrows}
-use Rattle.demands.proofs.Refusals.{run-completed, report-filled}
-use Rattle.demands.proofs.Arrows.{accepted-sound}
+use Rattle.demands.proofs.Refusals.{run-completed, run-with, report-filled}
 
 -- ---- the totals
 
@@ -48,7 +45,7 @@ module _ {log : List ℕ} {n : ℕ} {cut : List Event} {report counts′ words�
   -- short messages carry what is due, in all
   pub carried-short : Completed Short log n cut report counts′ words′ mail′ report′ r → DueInAll columns n cut (totalsOf r .carried)
   unfolding tallyOf says
-  carried-short done = rw (done .answer-is) (short-carried (accepted-sound (done .accepted-is)))
+  carried-short done = rw (done .answer-is) (short-carried (row-lawful (done .accepted-is) .sound))
 
   -- and nothing else: no other total is what is due
   pub carried-only : Completed Short log n cut report counts′ words′ mail′ report′ r → {d : ℕ} → DueInAll columns n cut d → totalsOf r .carried ≡ d
@@ -95,7 +92,7 @@ module _ {log : List ℕ} {n : ℕ} {cut : List Event}
   -- both rooms have the log's counts and flags, and both reports are the log's
   pub same-arrows : SameArrows counts′ words′ report′ counts₂′ words₂′ report₂′ r s
   same-arrows =
-      let law = accepted-lawful log n cut (row-verdict log (a .accepted-is)) in
+      let law = row-lawful (a .accepted-is) in
       let flags = same-flags (a .state-held .rows) (b .state-held .rows) (λ i k. mode-flags Full (law .sound) i k ∙ sym (mode-flags Short (law .sound) i k)) in
       record {
         counts-same = same-counts (a .state-held .rows) (b .state-held .rows) (λ i k. mode-counts Full (law .sound) i k ∙ sym (mode-counts Short (law .sound) i k));
@@ -114,17 +111,7 @@ pub modes-agree : {log counts words mail report counts′ words′ mail′ repor
     → Ran Full log counts words mail report counts′ words′ mail′ report′ r → numberOf r ≡ 0
     → Ran Short log counts₂ words₂ mail₂ report₂ counts₂′ words₂′ mail₂′ report₂′ s → numberOf s ≡ 0
     → SameButCarried r s × SameArrows counts′ words′ report′ counts₂′ words₂′ report₂′ r s
-modes-agree {log} {report = report} {counts′} {words′} {mail′} {report′} {r} {report₂ = report₂} {counts₂′} {words₂′} {mail₂′} {report₂′} {s} a x b y =
+modes-agree a x b y =
     let (n, cut, done) = run-completed a x in
-    let (m, past, other) = run-completed b y in
-    go n cut done m past other
-  where
-    go : (n : ℕ) (cut : List Event) → Completed Full log n cut report counts′ words′ mail′ report′ r
-        → (m : ℕ) (past : List Event) → Completed Short log m past report₂ counts₂′ words₂′ mail₂′ report₂′ s
-        → SameButCarried r s × SameArrows counts′ words′ report′ counts₂′ words₂′ report₂′ r s
-    go n cut done m past other =
-        let same : accepted m past ≡ accepted n cut = row-unique log (other .accepted-is) (done .accepted-is) in
-        let nodes : m ≡ n = cc in
-        let events : past ≡ cut = cc in
-        let there : Completed Short log n cut report₂ counts₂′ words₂′ mail₂′ report₂′ s = rw (nodes, events) at other in
-        (same-answers done there, same-arrows done there)
+    let other = run-with b y (done .accepted-is) in
+    (same-answers done other, same-arrows done other)

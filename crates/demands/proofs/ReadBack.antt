@@ -2,6 +2,7 @@
 -- without doubt. So whatever is read out of a report is right.
 -- Assumes nothing.
 use mathlib.Core.Path.{_≡_, refl, sym, _∙_, ap₂}
+use mathlib.Core.Bool.{false≢true}
 use mathlib.Core.List.{List, [], _∷_, _++_, append-assoc}
 use Prim.Native.Nat.{ℕ, zero, suc, _/_, _%_, _<_}
 use native.Mathlib.Decide.{decLt}
@@ -10,6 +11,7 @@ use lib.ListN.{length, take}
 use Rattle.order.specs.Order.{Event}
 use Rattle.verdict.specs.Verdict.{accepted}
 use Rattle.verdict.specs.Table.{Row}
+use Rattle.verdict.proofs.Accepted.{row-lawful}
 use Rattle.machine.specs.Machine.{full}
 use Rattle.machine.specs.Answer.{Answer, answers, Right}
 use Rattle.room.specs.declared.Mode.{Mode}
@@ -19,7 +21,7 @@ use Rattle.report.specs.Run.{numberOf, totalsOf, Ran}
 use Rattle.demands.specs.Demands.{marksOf, Each, each-nil, each-cons, SameAnswer, ReadsRight}
 use Rattle.demands.proofs.Refusals.{laid-front}
 use Rattle.demands.proofs.ListedMarks.{answers-right}
-use Rattle.demands.proofs.Arrows.{accepted-sound, report-only}
+use Rattle.demands.proofs.Arrows.{report-only}
 
 -- ---- records
 
@@ -82,7 +84,7 @@ causes-tell (x ∷ xs) (y ∷ ys) same h =
 -- behind a stamp come predecessors and groups, which do not begin with 0x22
 clear-groups : (n : ℕ) (xs : List (ℕ × ℕ)) (told : List Answer) → Clear n (causeRecords xs ++ groupsOf n told)
 unfolding causeRecords groupsOf groupOf
-clear-groups n [] [] k rest below h = let z : _≡_ {A = ℕ} 0 1 = cc in omega arith
+clear-groups n [] [] k rest below h = false≢true (cc)
 clear-groups n [] (a ∷ told) k rest below h = let z : _≡_ {A = ℕ} 0x21 0x22 = cc in omega arith
 clear-groups n (x ∷ xs) told k rest below h = let z : _≡_ {A = ℕ} 0x23 0x22 = cc in omega arith
 
@@ -109,8 +111,8 @@ group-tells n a b told said h = body-tells n a b told said (cc) (cc) (cc)
 pub groups-tell : (n : ℕ) (told said : List Answer) → groupsOf n told ≡ groupsOf n said → Each (SameAnswer n) told said
 unfolding groupsOf groupOf
 groups-tell n [] [] h = each-nil
-groups-tell n [] (b ∷ said) h = absurd (let z : _≡_ {A = ℕ} 0 1 = cc in omega arith)
-groups-tell n (a ∷ told) [] h = absurd (let z : _≡_ {A = ℕ} 0 1 = cc in omega arith)
+groups-tell n [] (b ∷ said) h = absurd (false≢true (cc))
+groups-tell n (a ∷ told) [] h = absurd (false≢true (cc))
 groups-tell n (a ∷ told) (b ∷ said) h =
     let (same, rest) = group-tells n a b told said h in
     each-cons same (groups-tell n told said rest)
@@ -131,6 +133,6 @@ pub report-read : {mode : Mode} {log counts words mail report counts′ words′
     → Each (ReadsRight n cut) (marksOf cut) said
 report-read {report = report} ran here {n} {cut} {said} row read =
     let told = answers n full cut in
-    let each = answers-right (accepted-sound row) in
+    let each = answers-right (row-lawful row .sound) in
     let (is, size) = report-only ran here row each in
     each-then each (groups-tell n told said (sym (rw (size, is) (laid-front (groupsOf n told) report)) ∙ read))

@@ -1,5 +1,5 @@
 -- Demand 1, from the promise of a run: its number and place are those of the one row of 01's table that fits, its totals and
--- what its four rooms hold afterwards are fixed.
+-- what its four rooms hold afterwards are fixed. By the four ways to end, each of which has its row.
 -- Assumes nothing.
 use mathlib.Core.Path.{_≡_, refl, sym, _∙_, ap, subst}
 use mathlib.Core.Logic.{_≢_, _↔_, ⊎-elim}
@@ -12,15 +12,16 @@ use lib.Seq.{take-append-seam, drop-append-seam}
 use Rattle.order.specs.Order.{Event}
 use Rattle.verdict.specs.Verdict.{accepted}
 use Rattle.verdict.specs.Table.{Row}
+use Rattle.verdict.proofs.Verdict.{row-unique}
 use Rattle.verdict.proofs.Points.{refused-number, refused-within}
 use Rattle.room.specs.declared.Mode.{Mode}
 use Rattle.room.specs.declared.Mode.the-variants.{Full}
 use Rattle.groups.specs.Groups.{laid}
-use Rattle.room.proofs.Zeroed.{zeroed-front, zeroed-behind}
 use Rattle.report.specs.declared.Answer.{Answer}
 use Rattle.passes.specs.Report.{reportOf, tallyOf, bytesAlone}
 use Rattle.report.specs.Run.{Ending, answerOf, reportAfter, numberOf, placeOf, totalsOf, RoomsAfter, Ran}
 use Rattle.report.specs.Settling.{Zero}
+use Rattle.report.proofs.Endings.{zeroed-zero, zeroed-kept}
 use Rattle.demands.specs.Demands.{Roomy, Answers, Completed, answers-0, answers-1, answers-log, answers-13}
 use Rattle.demands.proofs.Endings.{Ended, ended-cramped, ended-refusal, ended-overlong, ended-complete, ended, ended-only, Outcome, outcome, outcome-of}
 
@@ -147,8 +148,8 @@ module _ {mode : Mode} {log counts words mail report counts′ words′ mail′ 
     where
       go : Seen → Zero (take 1024 counts′) (take 1056 words′) (take 4480 mail′)
       go (outcome (ended-cramped h) a b c) = absurd (other (ap numberOf a))
-      go (outcome (ended-refusal h f) a b c) = rw (c .0, c .1, c .2) (record { counts-zero = zeroed-front 1024 counts; words-zero = zeroed-front 1056 words; mail-zero = zeroed-front 4480 mail })
-      go (outcome (ended-overlong h row long) a b c) = rw (c .0, c .1, c .2) (record { counts-zero = zeroed-front 1024 counts; words-zero = zeroed-front 1056 words; mail-zero = zeroed-front 4480 mail })
+      go (outcome (ended-refusal h f) a b c) = zeroed-zero counts words mail c
+      go (outcome (ended-overlong h row long) a b c) = zeroed-zero counts words mail c
       go (outcome (ended-complete h row short) a b c) = absurd (some (ap numberOf a))
 
   -- in every case the work rooms are as they were behind their fixed sizes
@@ -157,8 +158,8 @@ module _ {mode : Mode} {log counts words mail report counts′ words′ mail′ 
     where
       go : Seen → (drop 1024 counts′ ≡ drop 1024 counts) × (drop 1056 words′ ≡ drop 1056 words) × (drop 4480 mail′ ≡ drop 4480 mail)
       go (outcome (ended-cramped h) a b c) = (ap (drop 1024) (c .0), ap (drop 1056) (c .1), ap (drop 4480) (c .2))
-      go (outcome (ended-refusal h f) a b c) = rw (c .0, c .1, c .2) (zeroed-behind 1024 counts, zeroed-behind 1056 words, zeroed-behind 4480 mail)
-      go (outcome (ended-overlong h row long) a b c) = rw (c .0, c .1, c .2) (zeroed-behind 1024 counts, zeroed-behind 1056 words, zeroed-behind 4480 mail)
+      go (outcome (ended-refusal h f) a b c) = zeroed-kept counts words mail c
+      go (outcome (ended-overlong h row long) a b c) = zeroed-kept counts words mail c
       go (outcome (ended-complete h row short) a b c) = (c .1, c .2, c .3)
 
   -- On 0 the totals and the report are those of the log's events, and the work room holds the state after the last of them.
@@ -172,10 +173,19 @@ module _ {mode : Mode} {log counts words mail report counts′ words′ mail′ 
       go (outcome (ended-complete h row short) a b c) =
           (_, _, record { accepted-is = row; answer-is = a; report-fits = short; report-laid = b; state-held = c .0 })
 
-  -- It is so where the rooms are large enough and the log is accepted.
+  -- It is so with the events that the log is accepted with,
+  pub run-with : {n : ℕ} {cut : List Event} → numberOf r ≡ 0 → Row log (accepted n cut) → Completed mode log n cut report counts′ words′ mail′ report′ r
+  run-with {n} {cut} here row =
+      let (m, past, done) = run-completed here in
+      let same : accepted m past ≡ accepted n cut = row-unique log (done .accepted-is) row in
+      let nodes : m ≡ n = cc in
+      let events : past ≡ cut = cc in
+      rw (nodes, events) at done
+
+  -- and where the rooms are large enough and the log is accepted.
   pub run-completes : {n : ℕ} {cut : List Event} → Roomy counts words mail → Row log (accepted n cut) → length (reportOf n cut) ≤ length report
       → Completed mode log n cut report counts′ words′ mail′ report′ r
-  run-completes {n} {cut} h row short =
+  run-completes h row short =
       let end = ended-only log counts words mail (length report) (ended-complete h row short) in
       record {
         accepted-is = row;

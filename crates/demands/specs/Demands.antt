@@ -115,7 +115,7 @@ pub record Lies (mail : List ℕ) (s i j m : ℕ) : Type 0 where
   pub destination-is : getD mail (35 * s + 1) 0 ≡ j
   pub number-is : getD mail (35 * s + 2) 0 ≡ m
 
--- and carries there node k's count c, which is above zero, with flag x
+-- the element of slot s for node k is that of count c with flag x: if c is above zero, the message there carries it
 abbrev pub EntryAt : List ℕ → ℕ → ℕ → ℕ → Bool → Type 0
 EntryAt mail s k c x = getD mail (35 * s + 3 + k) 0 ≡ 2 * c + cond x 1 0
 

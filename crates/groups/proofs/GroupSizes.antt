@@ -9,6 +9,7 @@ use native.Mathlib.Decide.{le-ind}
 use native.Mathlib.Omega.{arith}
 use lib.ListN.{length, getD, length-append}
 use Rattle.bits.specs.Bits.{bit, setBelow}
+use Rattle.bits.proofs.Laws.{digit-small}
 use Rattle.machine.specs.Machine.{State}
 use Rattle.machine.specs.Answer.{Answer, flagged, answer}
 use Rattle.groups.specs.Groups.{stampRecord, stampRecords, causeRecords, groupOf}
@@ -18,11 +19,6 @@ use Rattle.groups.proofs.Records.{causeAt, causes-length}
 cond-length : (b : Bool) (x : ℕ × ℕ) → length (cond b (x ∷ []) []) ≡ cond b 1 0
 cond-length true x = refl
 cond-length false x = refl
-
--- and that is at most one
-cond-small : (b : Bool) → cond b 1 0 ≤ 1
-cond-small true = omega arith
-cond-small false = omega arith
 
 -- ---- the stamp
 
@@ -47,7 +43,7 @@ unfolding flagged
 flagged-size zero count flag = omega arith
 flagged-size (suc n) count flag =
     rw (length-append (flagged n count flag) (causeAt count flag n), cond-length (flag n) (n, count n))
-    (omega (arith, flagged-size n count flag, cond-small (flag n)))
+    (omega (arith, flagged-size n count flag, digit-small (flag n)))
 
 -- as many as there are set flags
 flagged-set : (n : ℕ) (count : ℕ → ℕ) (flags : ℕ) → length (flagged n count (bit flags)) ≡ setBelow n flags

@@ -9,8 +9,8 @@ use borrow.Author.Tests.{le-leb, lt-leb}
 use lib.ListN.{length, getD}
 use Rattle.bits.specs.Bits.{bit, setBelow}
 use Rattle.machine.specs.Answer.{flagged}
-use Rattle.groups.specs.Groups.{fourBytes, stampRecords, causeRecords, stampOf, groupOf, rowAnswer, Reached, Written}
-use Rattle.groups.proofs.Laying.{reached-more}
+use Rattle.groups.specs.Groups.{fourBytes, stampRecords, causeRecords, stampOf, groupOf, rowAnswer, Laid, Written}
+use Rattle.groups.proofs.Laying.{and-then}
 use Rattle.groups.proofs.GroupSizes.{causes-set, group-size}
 
 -- bytes that do not fit are not written
@@ -20,9 +20,9 @@ unwritten {bytes} {room} e h =
 
 -- bytes that fit are
 written : {bytes room room′ : List ℕ} {size past : ℕ} → size ≡ length bytes → size ≤ length room
-    → Reached 0 bytes room room′ past → Written 0 bytes room room′ size
-written {bytes} {room} e h reached =
-    record { size-is = e; room-is = rw (le-leb (0 + length bytes) (length room) (omega arith)) (reached .room-is) }
+    → Laid 0 bytes room room′ past → Written 0 bytes room room′ size
+written {bytes} {room} e h laid =
+    record { size-is = e; room-is = rw (le-leb (0 + length bytes) (length room) (omega arith)) (laid .room-is) }
 
 module _ (i : ℕ) (row : List ℕ) (flags : ℕ) (few : length row ≤ 32) (clear : (k : ℕ) → length row ≤ k → bit flags k ≡ false) where
   -- the size as the code counts it
@@ -37,12 +37,10 @@ module _ (i : ℕ) (row : List ℕ) (flags : ℕ) (few : length row ≤ 32) (cle
   pub group-written : {number causes size stamps at past : ℕ} {room room₁ room₂ room₃ : List ℕ}
       → number ≡ stampOf i row i → causes ≡ setBelow 32 flags
       → size ≡ length (groupOf (length row) (rowAnswer i row flags)) → size ≤ length room
-      → stamps ≤ length room₁
-      → Reached 0 (fourBytes 0x21 i number ++ (causes ∷ [])) room room₁ stamps
-      → Reached stamps (stampRecords (length row) (stampOf i row)) room₁ room₂ at
-      → Reached at (causeRecords (flagged (length row) (λ k. getD row k 0) (bit flags))) room₂ room₃ past
+      → Laid 0 (fourBytes 0x21 i number ++ (causes ∷ [])) room room₁ stamps
+      → Laid stamps (stampRecords (length row) (stampOf i row)) room₁ room₂ at
+      → Laid at (causeRecords (flagged (length row) (λ k. getD row k 0) (bit flags))) room₂ room₃ past
       → Written 0 (groupOf (length row) (rowAnswer i row flags)) room room₃ size
   unfolding groupOf rowAnswer
-  group-written numbered counted sized fits within head stamp causes =
-      written sized fits
-      (reached-more (omega arith) (rw (numbered, counted ∙ sym (causes-set row flags few clear)) at head) (reached-more within stamp causes))
+  group-written numbered counted sized fits head stamp causes =
+      written sized fits (and-then (rw (numbered, counted ∙ sym (causes-set row flags few clear)) at head) (and-then stamp causes))

@@ -1,13 +1,13 @@
--- Bytes laid over a room: none change nothing, and two runs side by side are laid as one.
+-- Bytes laid over a room: none change nothing, a store lays one, and two runs side by side are laid as one.
 -- Assumes nothing.
-use mathlib.Core.Path.{_≡_, sym, ap, _∙_}
+use mathlib.Core.Path.{_≡_, refl, sym, ap, _∙_}
 use mathlib.Core.List.{List, [], _∷_, _++_, append-assoc}
-use Prim.Native.Nat.{ℕ, suc, _+_, _≤_}
+use Prim.Native.Nat.{ℕ, suc, _+_, _≤_, _<_}
 use native.Mathlib.Nat.{le-refl}
 use native.Mathlib.Omega.{arith}
 use lib.ListN.{length, take, drop, set, length-append}
 use lib.Seq.{length-take-le, take-at, drop-append-add, drop-drop, sets-eq, paste-zero, take-length, length-paste}
-use Rattle.groups.specs.Groups.{laid, Reached}
+use Rattle.groups.specs.Groups.{laid, Laid}
 
 -- the second run starts where the first ends
 pub laid-next : (at : ℕ) (xs ys room : List ℕ) → at ≤ length room → laid (at + length xs) ys (laid at xs room) ≡ laid at (xs ++ ys) room
@@ -21,6 +21,10 @@ laid-next at xs ys room h =
     ∙ drop-drop (length ys) (at + length xs) room
     ∙ ap (λ (n : ℕ). drop n room) end in
     rw (take-at front (drop (at + length xs) room) (at + length xs) size, rest, append-assoc (take at room) xs ys)
+
+-- no bytes change nothing
+pub laid-none : (at : ℕ) (room : List ℕ) → room ≡ laid at [] room
+laid-none at room = paste-zero room at []
 
 -- where there is space the room keeps its length
 pub laid-length : (at : ℕ) (xs room : List ℕ) → at + length xs ≤ length room → length (laid at xs room) ≡ length room
@@ -43,17 +47,24 @@ stores-laid at a b c d room h =
     let fourth : at + 3 ≡ suc (suc (suc at)) = omega arith in
     rw (second, third, fourth) (sets-eq (a ∷ b ∷ c ∷ d ∷ []) room at h)
 
--- ---- the place that is reached
+-- ---- what is laid
 
--- nothing was laid
-pub reached-none : (at : ℕ) (room : List ℕ) → Reached at [] room room at
-reached-none at room = record { past-is = omega arith; room-is = paste-zero room at [] }
+-- one byte stored is one byte laid
+pub one-laid : (room : List ℕ) (at v : ℕ) → at < length room → Laid at (v ∷ []) room (set room at v) (at + 1)
+one-laid room at v h = record { past-is = refl; within = omega arith; room-is = store-laid at v room (omega arith) }
 
--- a second run was laid behind the first
-pub reached-more : {at past past′ : ℕ} {xs ys room room′ room″ : List ℕ} → at ≤ length room
-    → Reached at xs room room′ past → Reached past ys room′ room″ past′ → Reached at (xs ++ ys) room room″ past′
-reached-more {at} {xs = xs} {ys = ys} {room = room} h first next =
+-- no bytes lie anywhere
+pub none-laid : (room : List ℕ) (at : ℕ) → at ≤ length room → Laid at [] room room at
+none-laid room at h = record { past-is = omega arith; within = h; room-is = laid-none at room }
+
+-- where two functions lay one after the other, both have laid the whole
+pub and-then : {at mid past : ℕ} {xs ys room room′ room″ : List ℕ} → Laid at xs room room′ mid → Laid mid ys room′ room″ past → Laid at (xs ++ ys) room room″ past
+and-then {at} {mid} {past} {xs} {ys} {room} {room′} {room″} f g =
+    let m = f .past-is in
+    let inside : at ≤ length room = omega (arith, f .past-is, f .within) in
+    let same : length room′ ≡ length room = ap length (f .room-is) ∙ laid-length at xs room (omega (arith, f .past-is, f .within)) in
     record {
-      past-is = next .past-is ∙ rw (first .past-is, length-append xs ys) (omega arith);
-      room-is = next .room-is ∙ rw (first .past-is, first .room-is) (laid-next at xs ys room h);
+      past-is = omega (arith, f .past-is, g .past-is, length-append xs ys);
+      within = omega (arith, g .within, same);
+      room-is = g .room-is ∙ rw (m, f .room-is) (laid-next at xs ys room inside);
     }

@@ -5,3 +5,4 @@ pub mod GroupSizes
 pub mod GroupWritten
 pub mod GroupsSame
 pub mod LentTail
+pub mod OneResult

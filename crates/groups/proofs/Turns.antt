@@ -7,8 +7,8 @@ use native.Mathlib.Numerals.{add-one}
 use native.Mathlib.Decide.{le-ind}
 use native.Mathlib.Omega.{arith}
 use lib.ListN.{length, length-append}
-use Rattle.groups.specs.Groups.{Reached}
-use Rattle.groups.proofs.Laying.{reached-more}
+use Rattle.groups.specs.Groups.{Laid}
+use Rattle.groups.proofs.Laying.{and-then}
 
 -- `done k` is what stands there after k turns, and `turn k` is what the next one adds
 pub record Grows (done turn : ℕ → List ℕ) : Type 0 where
@@ -25,10 +25,10 @@ module _ {done turn : ℕ → List ℕ} (grows : Grows done turn) where
 
   module _ (n from : ℕ) (room₀ : List ℕ) (fits : from + length (done n) ≤ length room₀) {k at : ℕ} {room : List ℕ} where
     -- there is space for what a turn adds
-    pub turn-fits : k < n → length room ≡ length room₀ → Reached from (done k) room₀ room at → at + length (turn k) ≤ length room
-    turn-fits h same reached = omega (arith, turn-within n k h, reached .past-is)
+    pub turn-fits : k < n → length room ≡ length room₀ → Laid from (done k) room₀ room at → at + length (turn k) ≤ length room
+    turn-fits h same laid = omega (arith, turn-within n k h, laid .past-is)
 
     -- and what it adds is laid with what stood there
-    pub turn-done : {room′ : List ℕ} {at′ : ℕ} → Reached from (done k) room₀ room at → Reached at (turn k) room room′ at′
-        → Reached from (done (k + 1)) room₀ room′ at′
-    turn-done reached next = rw (grows .more k) (reached-more (omega arith) reached next)
+    pub turn-done : {room′ : List ℕ} {at′ : ℕ} → Laid from (done k) room₀ room at → Laid at (turn k) room room′ at′
+        → Laid from (done (k + 1)) room₀ room′ at′
+    turn-done laid next = rw (grows .more k) (and-then laid next)

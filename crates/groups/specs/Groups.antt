@@ -3,7 +3,7 @@
 use mathlib.Core.Path.{_≡_}
 use mathlib.Core.Bool.{cond}
 use mathlib.Core.List.{List, [], _∷_, _++_}
-use Prim.Native.Nat.{ℕ, zero, suc, _+_, _/_, _%_}
+use Prim.Native.Nat.{ℕ, zero, suc, _+_, _/_, _%_, _≤_}
 use lib.Dec.{leb}
 use lib.ListN.{length, getD, take, drop}
 use Rattle.bits.specs.Bits.{bit}
@@ -14,11 +14,12 @@ use Rattle.machine.specs.Answer.{Answer, flagged}
 abbrev pub fourBytes : ℕ → ℕ → ℕ → List ℕ
 fourBytes kind k c = kind ∷ k ∷ c % 256 ∷ c / 256 ∷ []
 
--- 0x22 for each node below n whose stamp is above zero, ascending
+-- 0x22 with node k's count; nothing for a count of zero
 unfoldable pub stampRecord : ℕ → ℕ → List ℕ
 stampRecord k zero = []
 stampRecord k (suc c) = fourBytes 0x22 k (suc c)
 
+-- a stamp's records for the nodes below n, ascending
 unfoldable pub stampRecords : ℕ → (ℕ → ℕ) → List ℕ
 stampRecords zero stamp = []
 stampRecords (suc k) stamp = stampRecords k stamp ++ stampRecord k (stamp k)
@@ -58,9 +59,10 @@ rowAnswer i row flags =
 abbrev pub laid : ℕ → List ℕ → List ℕ → List ℕ
 laid at bytes room = take at room ++ bytes ++ drop (at + length bytes) room
 
--- the bytes stand in the room from a place on, and the place past them is reached
-pub record Reached (at : ℕ) (bytes room room′ : List ℕ) (past : ℕ) : Type 0 where
+-- the bytes lie over the room from a place on, all of them within it, and `past` is the place past them
+pub record Laid (at : ℕ) (bytes room room′ : List ℕ) (past : ℕ) : Type 0 where
   pub past-is : past ≡ at + length bytes
+  pub within : past ≤ length room
   pub room-is : room′ ≡ laid at bytes room
 
 -- the room with the bytes written from a place on, if it has space for them there; else as it was

@@ -8,7 +8,7 @@ ghost use Prim.Native.Nat.{ℕ, _+_, _<_, _≤_};
 ghost use lib.ListN.{length, getD};
 ghost use Rattle.bits.specs.Bits.{bit};
 ghost use Rattle.machine.specs.Answer.{flagged};
-ghost use Rattle.groups.specs.Groups.{fourBytes, stampRecord, stampRecords, causeRecords, groupOf, stampOf, rowAnswer, Reached, Written};
+ghost use Rattle.groups.specs.Groups.{fourBytes, stampRecord, stampRecords, causeRecords, groupOf, stampOf, rowAnswer, Laid, Written};
 
 // Writes the group of a mark at the node to the front of a room that has space for it, from the node's row and its flags
 // before the mark. How many bytes the group has comes back in any case.
@@ -62,7 +62,7 @@ fn stamp_bytes(row: &[u16], own: usize) -> usize
 // Writes a record of four bytes. The place past it comes back, as from each of the writers below.
 fn four_bytes(kind: u8, node: Node, number: u16, at: usize, room: &mut [u8]) -> usize
     requires { ⌜ at + 4 ≤ length (now room) ⌝ }
-    ensures { λ r. ⌜ Reached at (fourBytes kind (node .0) number) (now (room .entry)) (now (room .exit)) r ⌝ }
+    ensures { λ r. ⌜ Laid at (fourBytes kind (node .0) number) (now (room .entry)) (now (room .exit)) r ⌝ }
 {
     let low = (number % 256) as u8;
     let high = (number / 256) as u8;
@@ -76,7 +76,7 @@ fn four_bytes(kind: u8, node: Node, number: u16, at: usize, room: &mut [u8]) -> 
 // Writes the first record of a group: the mark, and how many direct predecessors it has.
 fn head(node: Node, number: MarkNumber, causes: u8, room: &mut [u8]) -> usize
     requires { ⌜ 5 ≤ length (now room) ⌝ }
-    ensures { λ r. ⌜ Reached 0 (fourBytes 0x21 (node .0) (number .0) ++ (causes ∷ []))
+    ensures { λ r. ⌜ Laid 0 (fourBytes 0x21 (node .0) (number .0) ++ (causes ∷ []))
         (now (room .entry)) (now (room .exit)) r ⌝ }
 {
     let at = four_bytes(0x21, node, number.0, 0, room);
@@ -87,7 +87,7 @@ fn head(node: Node, number: MarkNumber, causes: u8, room: &mut [u8]) -> usize
 // Writes the stamp at a node, unless it is zero.
 fn stamp_record(node: Node, count: u16, at: usize, room: &mut [u8]) -> usize
     requires { ⌜ at + length (stampRecord (node .0) count) ≤ length (now room) ⌝ }
-    ensures { λ r. ⌜ Reached at (stampRecord (node .0) count) (now (room .entry)) (now (room .exit)) r ⌝ }
+    ensures { λ r. ⌜ Laid at (stampRecord (node .0) count) (now (room .entry)) (now (room .exit)) r ⌝ }
 {
     if count > 0 {
         return four_bytes(0x22, node, count, at, room);
@@ -98,7 +98,7 @@ fn stamp_record(node: Node, count: u16, at: usize, room: &mut [u8]) -> usize
 // Writes a direct predecessor, if its flag is set.
 fn cause_record(node: Node, number: MarkNumber, flag: bool, at: usize, room: &mut [u8]) -> usize
     requires { ⌜ at + cond flag 4 0 ≤ length (now room) ⌝ }
-    ensures { λ r. ⌜ Reached at (causeRecords (cond flag ((node .0, number .0) ∷ []) []))
+    ensures { λ r. ⌜ Laid at (causeRecords (cond flag ((node .0, number .0) ∷ []) []))
         (now (room .entry)) (now (room .exit)) r ⌝ }
 {
     if flag {
@@ -111,7 +111,7 @@ fn cause_record(node: Node, number: MarkNumber, flag: bool, at: usize, room: &mu
 fn write_stamps(row: &[u16], own: usize, from: usize, room: &mut [u8]) -> usize
     requires { ⌜ (length (now row) ≤ 32) × (getD (now row) own 0 < 65535) ⌝ }
     requires { ⌜ from + length (stampRecords (length (now row)) (stampOf own (now row))) ≤ length (now room) ⌝ }
-    ensures { λ r. ⌜ Reached from (stampRecords (length (now (row .entry))) (stampOf own (now (row .entry))))
+    ensures { λ r. ⌜ Laid from (stampRecords (length (now (row .entry))) (stampOf own (now (row .entry))))
         (now (room .entry)) (now (room .exit)) r ⌝ }
 {
     let mut at = from;
@@ -129,7 +129,7 @@ fn write_causes(row: &[u16], flags: u32, from: usize, room: &mut [u8]) -> usize
     requires { ⌜ length (now row) ≤ 32 ⌝ }
     requires { ⌜ from + length (causeRecords (flagged (length (now row)) (λ k. getD (now row) k 0) (bit flags)))
         ≤ length (now room) ⌝ }
-    ensures { λ r. ⌜ Reached from
+    ensures { λ r. ⌜ Laid from
         (causeRecords (flagged (length (now (row .entry))) (λ k. getD (now (row .entry)) k 0) (bit flags)))
         (now (room .entry)) (now (room .exit)) r ⌝ }
 {

@@ -7,18 +7,10 @@ use passes::Tally;
 use report::Answer;
 use room::Mode;
 use text::Line;
-ghost use Prim.Native.Nat.{_≤_};
-
-// A size, or the most there is room for.
-fn within(size: usize, most: usize) -> usize
-    ensures { λ r. ⌜ r ≤ most ⌝ }
-{
-    if size < most { size } else { most }
-}
 
 // Prints the first bytes of a line.
 fn print(line: &[u8], size: usize) {
-    let end = within(size, line.len());
+    let end = room::within(size, line.len());
     io::write_all(STDOUT_FILENO, &line[..end]);
 }
 
@@ -80,23 +72,21 @@ fn print_log(log: &[u8]) {
     let mut words = [0u32; 1056];
     let mut mail = [0u16; 4480];
     let mut report = [0u8; 16384];
-    match report::run(
+    let answer = report::run(
         Mode::Short,
         log,
         &mut counts,
         &mut words,
         &mut mail,
         &mut report,
-    ) {
-        Answer::Accepted(_, tally) => {
-            let end = within(tally.bytes, 16384);
-            print_marks(&report[..end], node_count(log));
-            print_totals(tally);
-        }
-        Answer::SmallRooms => print_refusal(1, 0),
-        Answer::Refused(number, place) => print_refusal(number, place),
-        Answer::SmallReport(place, _) => print_refusal(13, place),
+    );
+    if let Answer::Accepted(_, tally) = answer {
+        let end = room::within(tally.bytes, 16384);
+        print_marks(&report[..end], node_count(log));
+        print_totals(tally);
+        return;
     }
+    print_refusal(answer.number(), answer.place());
 }
 
 // Reads a log, one byte more than the longest that can be accepted, and prints what a run makes of it.

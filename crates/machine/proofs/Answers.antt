@@ -15,12 +15,12 @@ use Rattle.order.proofs.Places.{at-bound, at-down, at-unique}
 use Rattle.order.proofs.Before.{before-forward, before-up, before-down}
 use Rattle.order.proofs.Counts.{counts-same}
 use Rattle.order.proofs.Marks.{stamp-unique, nearest-unique, numbered-number, numbered-before, numbered-place}
-use Rattle.order.proofs.Growing.{stamp-grown, numbered-grown, nearest-grown, sound-cut}
+use Rattle.order.proofs.Growing.{numbered-up, numbered-down, stamp-grown, numbered-grown, nearest-grown, sound-cut}
 use Rattle.machine.specs.Machine.{put, State, marked, step, full}
 use Rattle.machine.specs.Answer.{Answer, answer, answers, Right}
 use Rattle.machine.proofs.Small.{differ, put-same}
 use Rattle.machine.proofs.Known.{Known, known-bound, known-before, before-known, within-known, known-within}
-use Rattle.machine.proofs.Numbers.{marks, numbered-new, numbered-up, numbered-down, numbered-exists, numbered-bound, counts-first}
+use Rattle.machine.proofs.Numbers.{marks, numbered-new, numbered-exists, numbered-bound, counts-first}
 use Rattle.machine.proofs.Describes.{Describes, Top}
 use Rattle.machine.proofs.Full.{own, faithful}
 use Rattle.machine.proofs.Listed.{flagged-in, flagged-out, flagged-ascending, ascending-same}
@@ -89,7 +89,7 @@ module _ {n : ℕ} (past : List Event) (i : ℕ) (ok : Sound n past) (within : i
   stamped-new : (k : ℕ) → Stamp es (length past) k (answer n i s .stamp k)
   unfolding answer full step
   stamped-new k =
-      let w = faithful (sound-cons {e = mark i} within ok) .rows i in
+      let w = faithful (sound-cons within ok) .rows i in
       counts-same (λ p h a. (a .0, known-within i p refl (a .1))) (λ p h a. (a .0, within-known i p refl (a .1)))
       (counts-first k es (Known es i) _ (w .fits k) (w .first k))
 

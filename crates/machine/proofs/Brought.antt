@@ -31,7 +31,7 @@ brought-cases (brought-once b) = inl b
 -- the receiver has the count, or a larger one
 pub brought-had : {K : Knowledge} {i j k c : ℕ} {es : List Event} → Brought K i j k c es → c ≤ short K es .state .count i k
 unfolding short step received takeCount
-brought-had {K} {i} {k = k} {c = c} (brought-now {past = past} {m = m} f h) =
+brought-had {K} {i} {k = k} (brought-now {past = past} {m = m} f h) =
     let s = short K past .state in
     rw (put-same i (λ k. takeCount (s .count i k) (s .letter m .entry k)) (s .count), h .1) (omega arith)
 brought-had {K} {i} {k = k} (brought-once {e = e} {past = past} b) =
@@ -44,7 +44,7 @@ unfolding short
 brought-from {K} {i} {j} {k} {c} (brought-now {past = past} {m = m} {p = p} f h) =
     let s = short K past in
     omega (arith, truthful K past m j i p f .1 k c (h .0) (h .1), rises (brief s) (receipt i m) (s .state) j k)
-brought-from {K} {i} {j} {k} (brought-once {e = e} {past = past} b) =
+brought-from {K} {j = j} {k = k} (brought-once {e = e} {past = past} b) =
     let s = short K past in
     omega (arith, brought-from b, rises (brief s) e (s .state) j k)
 
@@ -126,7 +126,7 @@ module _ (past : List Event) where
       noted-smaller : d < s .count b k → (held b k j ≡ true) ↔ Brought columns b j k (s .count b k) (receipt b m ∷ past)
       noted-smaller l = (
         λ h. brought-once (t b j k .0 h),
-        λ h. ⊎-elim (λ h. t b j k .1 h) (λ n. let q = sym e ∙ n .1 .1 in let z : d ≡ s .count b k = cc in absurd (omega arith)) (brought-then h),
+        λ h. ⊎-elim (λ h. t b j k .1 h) (λ n. let z : d ≡ s .count b k = cc in absurd (omega arith)) (brought-then h),
       )
 
       noted-equal : s .count b k ≡ d → (put o true (held b k) j ≡ true) ↔ Brought columns b j k (s .count b k) (receipt b m ∷ past)

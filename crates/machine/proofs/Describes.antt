@@ -15,7 +15,8 @@ use Rattle.order.proofs.Places.{at-bound, at-cases, at-down}
 use Rattle.order.proofs.Before.{before-forward, before-up, before-down}
 use Rattle.machine.specs.Machine.{put, meet}
 use Rattle.machine.proofs.Small.{put-both, Meets, larger, smaller, equal, meets}
-use Rattle.machine.proofs.Numbers.{marks, marks-same, marks-rise, numbered-up, numbered-cases, numbered-bound, numbered-exists, First}
+use Rattle.order.proofs.Growing.{numbered-up}
+use Rattle.machine.proofs.Numbers.{marks, marks-same, marks-rise, numbered-cases, numbered-bound, numbered-exists, First}
 
 -- mark number r of k is before no mark of the set S
 abbrev pub Top : List Event → (ℕ → Type 0) → ℕ → ℕ → Type 0
@@ -61,7 +62,7 @@ module _ {x : Event} {past : List Event} where
         closed = λ p q s b. v .closed p q s (before-down (v .bound p s) b);
         fits = λ k. omega (arith, v .fits k, marks-rise k x past);
         first = λ k. (
-          λ p r n s. ⊎-elim (λ c. let h = v .bound p s in let z = c .1 in absurd (omega arith)) (λ o. v .first k .0 p r o s) (numbered-cases n),
+          λ p r n s. ⊎-elim (λ c. let h = v .bound p s in absurd (omega arith)) (λ o. v .first k .0 p r o s) (numbered-cases n),
           λ p r n h. let l = v .fits k in v .first k .1 p r (numbered-old n (omega arith)) h,
         );
         flags = λ k. (
@@ -188,7 +189,7 @@ module _ {past : List Event} (i : ℕ) {S : ℕ → Type 0} {c : ℕ → ℕ} {f
   )
     where
       old : {p r : ℕ} → Numbered (mark i ∷ past) k p r → Numbered past k p r
-      old n = ⊎-elim (λ e. absurd (h (let q = e .0 in cc))) (λ o. o) (numbered-cases n)
+      old n = ⊎-elim (λ e. absurd (h (cc))) (λ o. o) (numbered-cases n)
 
   fit : (k : ℕ) → Fit k (put i (suc (c i)) c k) (put i true (λ k. false) k)
   fit k = put-both (Fit k) i (suc (c i)) c true (λ k. false) k (λ h. rw (← h) fit-own) (fit-other k)

@@ -166,7 +166,7 @@ faithful-start =
         closed = λ p q k b. known-closed i p q k b;
         fits = λ k. omega arith;
         first = λ k. (λ p r n s. let h = known-bound i p s in absurd (omega arith), λ p r n h. let l = numbered-bound n in absurd (omega arith));
-        flags = λ k. (λ h. absurd (false≢true h), λ h. let z = h .0 in absurd (omega arith));
+        flags = λ k. (λ h. absurd (false≢true h), λ h. absurd (omega arith));
       };
       posts = λ m i j a f. let h = flying-bound f in absurd (omega arith);
     }

@@ -50,7 +50,7 @@ record Owed (x : Entry) (h : ℕ) : Type 0 where
   light : (count ≡ 0) ⊎ (flag ≡ true)
 
 owed-rises : {x : Entry} {h l : ℕ} → h ≤ l → Owed x h → Owed x l
-owed-rises r o = record { count = o .count; flag = o .flag; told = o .told; had = (let z = o .had in omega arith); light = o .light }
+owed-rises r o = record { count = o .count; flag = o .flag; told = o .told; had = omega arith; light = o .light }
 
 -- a flag is clear where the count is 0
 clear : {es : List Event} {t : State} → Faithful es t → (j k : ℕ) → t .count j k ≡ 0 → t .flag j k ≡ false
@@ -59,11 +59,11 @@ clear v j k h = eq-false-of-not-eq-true (λ e. let l = v .rows j .flags k .0 e .
 -- such an entry is idle
 owed-idle : {es : List Event} {t : State} → Faithful es t → (j m k : ℕ) → Owed (t .letter m .entry k) (t .count j k) → Idle t j m k
 unfolding takeCount takeFlag
-owed-idle {t = t} v j m k o = rw (o .told) (let h = o .had in omega arith, go (meets (t .count j k) (t .flag j k) (o .count) (o .flag)) (o .light))
+owed-idle {t = t} v j m k o = rw (o .told) (omega arith, go (meets (t .count j k) (t .flag j k) (o .count) (o .flag)) (o .light))
   where
     go : Meets (t .count j k) (t .flag j k) (o .count) (o .flag) → (o .count ≡ 0) ⊎ (o .flag ≡ true)
         → meet (t .count j k) (t .flag j k) (o .count) (o .flag) ≡ t .flag j k
-    go (larger l e) a = let h = o .had in absurd (omega arith)
+    go (larger l e) a = absurd (omega arith)
     go (smaller l e) a = e
     go (equal l e) (inl a) = let z = clear v j k (l ∙ a) in e ∙ rw z
     go (equal l e) (inr a) = e ∙ rw a (and-true (t .flag j k))
@@ -106,7 +106,7 @@ module _ (K : Knowledge) where
   harmless-other past e h j m q = absurd (h (ap kind q))
 
   harmless-receipt : {past : List Event} (j m : ℕ) → Faithful past (full past) → (i : ℕ) × (p : ℕ) × Flying m i j past p → Owing past → Harmless K past (receipt j m)
-  harmless-receipt {past} j m v f w b l q k e =
+  harmless-receipt j m v f w b l q k e =
       let x : j ≡ b = cc in let y : m ≡ l = cc in
       let o = w m (f .0) j (f .1) (f .2) k (rw (← y) at e) in
       rw (← x, ← y) (owed-idle v j m k o)

@@ -23,10 +23,17 @@ known-closed i p o k r = (k .0, k .1, inr (before-within r (k .2)))
 pub known-at : {es : List Event} (i p : ℕ) {e : Event} → nodeOf e ≡ i → At es p e → Known es i p
 known-at i p h a = let l = last-of i h a in (l .0, l .1, within-last i h a (l .1))
 
--- what is before the newest event is what directly precedes it, or before that
-before-new : {e : Event} {past : List Event} {p : ℕ} → Before (e ∷ past) p (length past) → (q : ℕ) × Link (e ∷ past) q (length past) × Within past q p
-before-new (direct l) = (_, l, inl refl)
-before-new (onward r l) = let h = link-forward l in (_, l, inr (before-down (omega arith) r))
+-- directly before the newest event is its node's last, or the send of the message that it receives
+abbrev Preceding : Event → List Event → ℕ → Type 0
+Preceding e past q = Last (nodeOf e) past q ⊎ ((m i j : ℕ) × (e ≡ receipt j m) × Flying m i j past q)
+
+preceding : {e : Event} {past : List Event} {q : ℕ} → Link (e ∷ past) q (length past) → Preceding e past q
+preceding l = ⊎-elim (λ o. let h = link-forward o in absurd (omega arith)) (λ c. c .1) (link-cases l)
+
+-- and what is before it is that, or before that
+before-new : {e : Event} {past : List Event} {p : ℕ} → Before (e ∷ past) p (length past) → (q : ℕ) × Preceding e past q × Within past q p
+before-new (direct l) = (_, preceding l, inl refl)
+before-new (onward r l) = let h = link-forward l in (_, preceding l, inr (before-down (omega arith) r))
 
 module _ {e : Event} {past : List Event} where
   -- an event of another node teaches nothing
@@ -54,10 +61,8 @@ module _ {e : Event} {past : List Event} where
   -- and nothing else is, unless it is a receipt
   pub before-known : ((j m : ℕ) → e ≢ receipt j m) → (p : ℕ) → Before (e ∷ past) p (length past) → Known past (nodeOf e) p
   before-known quiet p b =
-      let n = before-new b in
-      ⊎-elim (λ l. let h = link-forward l in absurd (omega arith))
-      (λ c. ⊎-elim (λ l. (n .0, l, n .2)) (λ r. absurd (quiet (r .2) (r .0) (r .3))) (c .1))
-      (link-cases (n .1))
+      let (q, last, within) = before-new b in
+      ⊎-elim (λ l. (q, l, within)) (λ r. absurd (quiet (r .2) (r .0) (r .3))) last
 
 module _ {past : List Event} (m i j a : ℕ) (flies : Flying m i j past a) where
   -- before a receipt is also the send and what is before that
@@ -66,10 +71,8 @@ module _ {past : List Event} (m i j a : ℕ) (flies : Flying m i j past a) where
 
   pub before-receipt : (p : ℕ) → Before (receipt j m ∷ past) p (length past) → Known past j p ⊎ Within past a p
   before-receipt p b =
-      let n = before-new b in
-      ⊎-elim (λ l. let h = link-forward l in absurd (omega arith))
-      (λ c. ⊎-elim (λ l. inl (n .0, l, n .2)) (λ r. inr (sent r (n .2))) (c .1))
-      (link-cases (n .1))
+      let (q, last, within) = before-new b in
+      ⊎-elim (λ l. inl (q, l, within)) (λ r. inr (sent r within)) last
     where
       sent : {q : ℕ} → (l o k : ℕ) × (receipt j m ≡ receipt k l) × Flying l o k past q → Within past q p → Within past a p
       sent {q} (l, o, k, h, f) w =

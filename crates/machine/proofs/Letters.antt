@@ -55,7 +55,7 @@ pub flight-kept : (K : Knowledge) (later past : List Event) {m i j : ℕ} → Fl
 unfolding short step marked received
 flight-kept K [] past {m} f = put-same m _ _
 flight-kept K (x ∷ later) past {m} {i} {j} f =
-    ⊎-elim (λ c. let z = c .1 in absurd (omega (arith, length-append later (send i j m ∷ past)))) (λ c. go x (c .0) (flight-kept K later past (c .1))) (flying-cases f)
+    ⊎-elim (λ c. absurd (omega (arith, length-append later (send i j m ∷ past)))) (λ c. go x (c .0) (flight-kept K later past (c .1))) (flying-cases f)
   where
     es : List Event
     es = later ++ (send i j m ∷ past)

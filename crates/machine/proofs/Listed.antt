@@ -38,7 +38,7 @@ module _ (c : ℕ → ℕ) (f : ℕ → Bool) where
   unfolding flagged
   flagged-out zero k d m = absurd (List·Memᴰ·not-nil m)
   flagged-out (suc n) k d m =
-      ⊎-elim (λ o. let h = flagged-out n k d o in (omega (arith, h .0), h .1, h .2)) (λ o. last (f n) refl o) (List·Memᴰ·append-cases (flagged n c f) m)
+      ⊎-elim (λ o. let h = flagged-out n k d o in (omega arith, h .1, h .2)) (λ o. last (f n) refl o) (List·Memᴰ·append-cases (flagged n c f) m)
     where
       last : (x : Bool) → f n ≡ x → List·Memᴰ {A = ℕ × ℕ} (k, d) (cond x ((n, c n) ∷ []) []) → (k < suc n) × (f k ≡ true) × (d ≡ c k)
       last true e m =
@@ -74,7 +74,7 @@ pub ascending-same : {s t : List (ℕ × ℕ)} → Ascending s → Ascending t �
 ascending-same ascending-nil ascending-nil f g = refl
 ascending-same ascending-nil (ascending-cons h b) f g = absurd (List·Memᴰ·not-nil (g _ _ (List·Memᴰ·head refl)))
 ascending-same (ascending-cons h a) ascending-nil f g = absurd (List·Memᴰ·not-nil (f _ _ (List·Memᴰ·head refl)))
-ascending-same (ascending-cons {k = k} {c = c} {rest = s} h a) (ascending-cons {k = l} {c = d} {rest = t} o b) f g =
+ascending-same (ascending-cons {k = k} {c = c} h a) (ascending-cons {k = l} {c = d} o b) f g =
     ap₂ _∷_ heads
     (ascending-same a b
     (λ m e i. let z = h m e i in past-first (omega (arith, same)) (f m e (List·Memᴰ·tail i)))

@@ -14,7 +14,7 @@ use borrow.Author.Tests.{eq-eqb, ne-eqb}
 use Rattle.order.specs.Order.{Event, idle, mark, send, receipt, At, at-head, at-tail, Counts, counts-zero, counts-yes, counts-no, Numbered}
 use Rattle.order.proofs.Places.{at-bound, at-cases, at-down}
 use Rattle.order.proofs.Counts.{counts-unique, counts-same, counts-grow, counts-rise}
-use Rattle.order.proofs.Growing.{numbered-grown}
+use Rattle.order.proofs.Growing.{numbered-up, numbered-down}
 use Rattle.machine.proofs.Small.{differ}
 
 -- how many marks of k the cut has
@@ -54,13 +54,6 @@ marks-rise k e past = go (dec-mark k e)
     go (no h) = omega (arith, marks-other k e past h)
 
 -- ---- the number of a mark
-
-module _ {x : Event} {past : List Event} where
-  pub numbered-up : {k p r : ℕ} → Numbered past k p r → Numbered (x ∷ past) k p r
-  numbered-up n = numbered-grown past (x ∷ []) (at-bound (n .0)) .0 n
-
-  pub numbered-down : {k p r : ℕ} → p < length past → Numbered (x ∷ past) k p r → Numbered past k p r
-  numbered-down h n = numbered-grown past (x ∷ []) h .1 n
 
 -- the marks of k in the cut are `marks k` in number
 pub counts-marks : (k : ℕ) (es : List Event) → Counts (λ p. At es p (mark k)) (length es) (marks k es)
@@ -133,10 +126,10 @@ counts-min k (e ∷ past) S c f d h =
         newest : Dec (suc (marks k past) ≤ c) → Counts P (suc (length past)) d
         newest (yes b) =
             let z : d ≡ suc (min c (marks k past)) = omega (arith, t, marks-same k past) in
-            rw z (counts-yes {m = length past} (n .0, f .1 _ _ n b) rec)
+            rw z (counts-yes (n .0, f .1 _ _ n b) rec)
         newest (no b) =
             let z : d ≡ min c (marks k past) = omega (arith, t, marks-same k past) in
-            rw z (counts-no {m = length past} (λ x. b (f .0 _ _ n (x .1))) rec)
+            rw z (counts-no (λ x. b (f .0 _ _ n (x .1))) rec)
     go (no q) b rec =
         let z : d ≡ min c (marks k past) = omega (arith, marks-other k e past q) in
         rw z (counts-no {m = length past} (λ x. ⊎-elim (λ y. q (y .1)) (λ y. let l = at-bound y in omega arith) (at-cases (x .0))) rec)

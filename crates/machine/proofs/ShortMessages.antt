@@ -5,10 +5,10 @@ use mathlib.Core.Path.{_≡_, refl, sym, _∙_}
 use mathlib.Core.Logic.{_⊎_, inl, inr, ⊎-elim, _↔_}
 use mathlib.Core.Bool.{Bool, true, false, _&&_, true≢false}
 use mathlib.Mathlib.Data.Bool.Basic.{eq-false-of-not-eq-true}
-use mathlib.Core.List.{List, _∷_, _++_}
+use mathlib.Core.List.{List, [], _∷_, _++_}
 use Prim.Native.Nat.{ℕ}
 use lib.ListN.{length}
-use Rattle.order.specs.Order.{Event, send, Flying, Sound, sound-cons}
+use Rattle.order.specs.Order.{Event, send, Flying, Sound}
 use Rattle.order.proofs.Growing.{sound-cut}
 use Rattle.machine.specs.Machine.{present, full}
 use Rattle.machine.specs.Short.{brief, short, columns}
@@ -65,8 +65,5 @@ module _ {n : ℕ} {past : List Event} (ok : Sound n past) (i j k : ℕ) where
 -- and so it is for a message still in flight, whatever came after its send
 pub flight-exactly : {n : ℕ} (later past : List Event) {m i j : ℕ} → Sound n (later ++ (send i j m ∷ past)) → Flying m i j (later ++ (send i j m ∷ past)) (length past)
     → (k c : ℕ) (x : Bool) → (short columns (later ++ (send i j m ∷ past)) .state .letter m .entry k ≡ present c x) ↔ Due columns past i j k c x
-flight-exactly {n} later past {m} {i} {j} ok f k c x =
-    rw (flight-kept columns later past f) (carried-exactly (before (sound-cut later ok)) i j k c x)
-  where
-    before : Sound n (send i j m ∷ past) → Sound n past
-    before (sound-cons a h) = h
+flight-exactly later past {m} {i} {j} ok f k c x =
+    rw (flight-kept columns later past f) (carried-exactly (sound-cut (send i j m ∷ []) (sound-cut later ok)) i j k c x)

@@ -3,8 +3,8 @@
 -- Assumes nothing.
 use mathlib.Core.Path.{_≡_, refl}
 use mathlib.Core.Bool.{Bool, true, false, cond, _&&_, _||_}
-use mathlib.Core.List.{List, [], _∷_, _++_, map}
-use Prim.Native.Nat.{ℕ, zero, suc}
+use mathlib.Core.List.{List, [], _∷_, map}
+use Prim.Native.Nat.{ℕ}
 use lib.Dec.{eqb, ltb}
 use lib.ListN.{drop}
 use Rattle.order.specs.Order.{Event, idle, mark, send, receipt}
@@ -16,9 +16,8 @@ use Rattle.machine.specs.Answer.{flagged, answer, answers, weight, entri
 use Rattle.machine.proofs.Cases.{firsts, show}
 
 -- the numbered pairs of a row
-unfoldable pub pairs : ℕ → (ℕ → ℕ) → List (ℕ × ℕ)
-pairs zero f = []
-pairs (suc k) f = pairs k f ++ ((k, f k) ∷ [])
+abbrev pairs : ℕ → (ℕ → ℕ) → List (ℕ × ℕ)
+pairs n f = flagged n f (λ k. true)
 
 -- ---- the shortcuts
 
@@ -35,13 +34,9 @@ unfoldable pub late : ℕ → State → ℕ → List (ℕ × ℕ)
 late n s i = flagged n (marked i s .count i) (marked i s .flag i)
 
 -- an overtaken message treated as a fault: the receipt of number m at j finds an older message from the same sender there
-unfoldable pub sender : ℕ → List Message → ℕ
-sender m [] = 0
-sender m (x ∷ xs) = cond (eqb (x .number) m) (x .from) (sender m xs)
-
-unfoldable pub sentAt : ℕ → List Message → ℕ
-sentAt m [] = 0
-sentAt m (x ∷ xs) = cond (eqb (x .number) m) (x .sent) (sentAt m xs)
+unfoldable pub ofNumber : (Message → ℕ) → ℕ → List Message → ℕ
+ofNumber part m [] = 0
+ofNumber part m (x ∷ xs) = cond (eqb (x .number) m) (part x) (ofNumber part m xs)
 
 unfoldable pub older : ℕ → ℕ → ℕ → List Message → Bool
 older i j p [] = false
@@ -52,7 +47,9 @@ overtakes [] = false
 overtakes (idle i ∷ past) = overtakes past
 overtakes (mark i ∷ past) = overtakes past
 overtakes (send i j m ∷ past) = overtakes past
-overtakes (receipt j m ∷ past) = older (sender m (inFlight past)) j (sentAt m (inFlight past)) (inFlight past) || overtakes past
+overtakes (receipt j m ∷ past) =
+    let flying = inFlight past in
+    older (ofNumber (λ x. x .from) m flying) j (ofNumber (λ x. x .sent) m flying) flying || overtakes past
 
 -- relying on order: the message that comes last is taken for the newest
 unfoldable pub lastWins : List Event → State
@@ -118,12 +115,12 @@ pub shortcuts-differ : ran
     ∷ row ((0, 2) ∷ (1, 1) ∷ []) ((0, 1) ∷ (1, 0) ∷ [])
     ∷ row ((0, 2) ∷ (1, 2) ∷ []) ((0, 1) ∷ (1, 2) ∷ [])
     ∷ []
-unfolding everyLast late lastWins pairs flagged full whole step start marked received meet takeCount takeFlag put short brief offer note learnColumns noteOld learnOld
+unfolding everyLast late lastWins flagged full whole step start marked received meet takeCount takeFlag put short brief offer note learnColumns noteOld learnOld
 shortcuts-differ = refl
 
 -- B has a message that overtakes, and is accepted; to call it a fault would refuse B
 pub overtaken-in-B : (overtakes cutA ≡ false) × (overtakes cutB ≡ true)
-unfolding overtakes older sender sentAt inFlight without
+unfolding overtakes older ofNumber inFlight without
 overtaken-in-B = (refl, refl)
 
 -- On B itself what is kept too long changes what node 0 holds node 1 to know of its second mark, which no message has told.

@@ -2,7 +2,7 @@
 -- Assumes nothing.
 use mathlib.Core.Path.{_≡_, refl, sym, ap}
 use mathlib.Core.Logic.{_⊎_, inl, inr, _≢_}
-use mathlib.Core.Bool.{Bool, true, false, _&&_}
+use mathlib.Core.Bool.{Bool, true, false, _&&_, false≢true}
 use Prim.Native.Nat.{ℕ, zero, suc, _<_, _≤_}
 use native.Mathlib.Nat.{le-refl}
 use native.Mathlib.Decide.{ℕ-discrete, decLt}
@@ -14,7 +14,7 @@ use Rattle.machine.specs.Short.{offer}
 
 -- an entry that is not there is none that is
 pub absent-present : {A : Type 0} {c : ℕ} {x : Bool} → absent ≡ present c x → A
-absent-present h = absurd (let z : _≡_ {A = ℕ} 0 1 = cc in omega arith)
+absent-present h = absurd (false≢true (cc))
 
 -- ---- events of different kinds
 
@@ -95,7 +95,7 @@ pub offer-present : (c : ℕ) (x spared : Bool) {d : ℕ} {y : Bool} → offer c
 unfolding offer
 offer-present zero x spared h = absent-present h
 offer-present (suc c) x true h = absent-present h
-offer-present (suc c) x false {d} {y} h = let e : suc c ≡ d = cc in (e, cc, omega arith, refl)
+offer-present (suc c) x false {d} h = let e : suc c ≡ d = cc in (e, cc, omega arith, refl)
 
 pub offer-kept : (c : ℕ) (x : Bool) → 0 < c → offer c x false ≡ present c x
 unfolding offer

@@ -6,7 +6,7 @@ use mathlib.Core.Logic.{_≢_, ⊎-elim}
 use mathlib.Core.Bool.{Bool}
 use mathlib.Core.List.{List, [], _∷_}
 use Prim.Native.Nat.{ℕ, zero, suc, _+_, _*_}
-use native.Mathlib.Nat.{mul-zero, mul-suc}
+use native.Mathlib.Nat.{mul-zero}
 use native.Mathlib.Omega.{arith}
 use lib.ListN.{length, length-append}
 use Rattle.order.specs.Order.{Event, idle, mark, send, receipt, At, at-head, at-tail, Sound, sound-nil, sound-cons, Counts, counts-zero, counts-yes, counts-no}
@@ -16,7 +16,7 @@ use Rattle.machine.specs.Machine.{Entry, absent, present, State, whole, 
 use Rattle.machine.specs.Short.{Knowledge, brief, short, columns}
 use Rattle.machine.specs.History.{Due, DueInAll, none-due, send-due, other-due}
 use Rattle.machine.specs.Answer.{answer, answers, weight, entries, Totals, more, totals}
-use Rattle.machine.proofs.Small.{kind, differ, absent-present}
+use Rattle.machine.proofs.Small.{differ, absent-present}
 use Rattle.machine.proofs.ShortMessages.{carried-exactly}
 
 -- ---- the entries of one message
@@ -30,10 +30,10 @@ entries-counted (suc n) entry = go (entry n) refl (entries-counted n entry)
         → Counts (λ k. (c : ℕ) × (x : Bool) × (entry k ≡ present c x)) (suc n) (entries n entry + weight (entry n))
     go absent e r =
         let z : entries n entry + 0 ≡ entries n entry = omega arith in
-        rw (e, z) (counts-no {m = n} (λ h. absent-present (sym e ∙ h .2)) r)
+        rw (e, z) (counts-no (λ h. absent-present (sym e ∙ h .2)) r)
     go (present c x) e r =
         let z : entries n entry + 1 ≡ suc (entries n entry) = omega arith in
-        rw (e, z) (counts-yes {m = n} (c, x, e) r)
+        rw (e, z) (counts-yes (c, x, e) r)
 
 -- a short message carries as many entries as are due
 pub short-entries : {n : ℕ} {past : List Event} → Sound n past → (i j : ℕ) → Counts (λ k. (c : ℕ) × (x : Bool) × Due columns past i j k c x) n (entries n (brief (short columns past) i j))
@@ -57,59 +57,44 @@ total-events n says (mark i ∷ past) = ap suc (total-events n says past)
 total-events n says (send i j m ∷ past) = ap suc (total-events n says past)
 total-events n says (receipt j m ∷ past) = ap suc (total-events n says past)
 
--- the place holds an event of the kind
-abbrev OfKind : ℕ → List Event → ℕ → Type 0
-OfKind q es p = (e : Event) × At es p e × (kind e ≡ q)
+-- the place holds one of these events
+abbrev Holds : {A : Type 0} → (A → Event) → List Event → ℕ → Type 0
+Holds {A} events es p = (a : A) × At es p (events a)
 
-module _ (q : ℕ) (e : Event) (past : List Event) {c : ℕ} (r : Counts (OfKind q past) (length past) c) where
-  earlier : Counts (OfKind q (e ∷ past)) (length past) c
-  earlier = counts-same (λ p l h. (h .0, at-tail (h .1), h .2)) (λ p l h. (h .0, at-down l (h .1), h .2)) r
+module _ {A : Type 0} (events : A → Event) {past : List Event} {c : ℕ} (r : Counts (Holds events past) (length past) c) where
+  earlier : (e : Event) → Counts (Holds events (e ∷ past)) (length past) c
+  earlier e = counts-same (λ p l h. (h .0, at-tail (h .1))) (λ p l h. (h .0, at-down l (h .1))) r
 
-  of-kind : kind e ≡ q → Counts (OfKind q (e ∷ past)) (suc (length past)) (suc c)
-  of-kind h = counts-yes {m = length past} (e, at-head, h) earlier
+  one-more : (a : A) → Counts (Holds events (events a ∷ past)) (suc (length past)) (suc c)
+  one-more a = counts-yes (a, at-head) (earlier (events a))
 
-  of-other : kind e ≢ q → Counts (OfKind q (e ∷ past)) (suc (length past)) c
-  of-other h =
-      counts-no {m = length past}
-      (λ o. ⊎-elim (λ a. h (ap kind (a .1) ∙ o .2)) (λ a. let l = at-bound a in omega arith) (at-cases (o .1))) earlier
+  no-more : (e : Event) → ((a : A) → e ≢ events a) → Counts (Holds events (e ∷ past)) (suc (length past)) c
+  no-more e other =
+      counts-no {m = length past} (λ h. ⊎-elim (λ q. other (h .0) (q .1)) (λ a. let l = at-bound a in omega arith) (at-cases (h .1))) (earlier e)
 
-marks-counted : (n : ℕ) (says : List Event → ℕ → ℕ → ℕ → Entry) (es : List Event) → Counts (OfKind 1 es) (length es) (totals n says es .marks)
-unfolding totals more
-marks-counted n says [] = counts-zero
-marks-counted n says (idle i ∷ past) = of-other 1 (idle i) past (marks-counted n says past) (λ z. omega arith)
-marks-counted n says (mark i ∷ past) = of-kind 1 (mark i) past (marks-counted n says past) refl
-marks-counted n says (send i j m ∷ past) = of-other 1 (send i j m) past (marks-counted n says past) (λ z. omega arith)
-marks-counted n says (receipt j m ∷ past) = of-other 1 (receipt j m) past (marks-counted n says past) (λ z. omega arith)
+module _ (n : ℕ) (says : List Event → ℕ → ℕ → ℕ → Entry) where
+  pub total-marks : (es : List Event) → Counts (λ p. (i : ℕ) × At es p (mark i)) (length es) (totals n says es .marks)
+  unfolding totals more
+  total-marks [] = counts-zero
+  total-marks (idle i ∷ past) = no-more mark (total-marks past) (idle i) (λ k. differ (λ z. omega arith))
+  total-marks (mark i ∷ past) = one-more mark (total-marks past) i
+  total-marks (send i j m ∷ past) = no-more mark (total-marks past) (send i j m) (λ k. differ (λ z. omega arith))
+  total-marks (receipt j m ∷ past) = no-more mark (total-marks past) (receipt j m) (λ k. differ (λ z. omega arith))
 
-sends-counted : (n : ℕ) (says : List Event → ℕ → ℕ → ℕ → Entry) (es : List Event) → Counts (OfKind 2 es) (length es) (totals n says es .sends)
-unfolding totals more
-sends-counted n says [] = counts-zero
-sends-counted n says (idle i ∷ past) = of-other 2 (idle i) past (sends-counted n says past) (λ z. omega arith)
-sends-counted n says (mark i ∷ past) = of-other 2 (mark i) past (sends-counted n says past) (λ z. omega arith)
-sends-counted n says (send i j m ∷ past) = of-kind 2 (send i j m) past (sends-counted n says past) refl
-sends-counted n says (receipt j m ∷ past) = of-other 2 (receipt j m) past (sends-counted n says past) (λ z. omega arith)
+  abbrev sending : ℕ × ℕ × ℕ → Event
+  sending (i, j, m) = send i j m
 
--- events of the first and of the second kind are marks and sends
-is-mark : (e : Event) → kind e ≡ 1 → (i : ℕ) × (e ≡ mark i)
-is-mark (idle i) h = absurd (omega arith)
-is-mark (mark i) h = (i, refl)
-is-mark (send i j m) h = absurd (omega arith)
-is-mark (receipt j m) h = absurd (omega arith)
+  sends-counted : (es : List Event) → Counts (Holds sending es) (length es) (totals n says es .sends)
+  unfolding totals more
+  sends-counted [] = counts-zero
+  sends-counted (idle i ∷ past) = no-more sending (sends-counted past) (idle i) (λ a. differ (λ z. omega arith))
+  sends-counted (mark i ∷ past) = no-more sending (sends-counted past) (mark i) (λ a. differ (λ z. omega arith))
+  sends-counted (send i j m ∷ past) = one-more sending (sends-counted past) (i, j, m)
+  sends-counted (receipt j m ∷ past) = no-more sending (sends-counted past) (receipt j m) (λ a. differ (λ z. omega arith))
 
-is-send : (e : Event) → kind e ≡ 2 → (i j m : ℕ) × (e ≡ send i j m)
-is-send (idle i) h = absurd (omega arith)
-is-send (mark i) h = absurd (omega arith)
-is-send (send i j m) h = (i, j, m, refl)
-is-send (receipt j m) h = absurd (omega arith)
-
-module _ (n : ℕ) (says : List Event → ℕ → ℕ → ℕ → Entry) (es : List Event) where
-  pub total-marks : Counts (λ p. (i : ℕ) × At es p (mark i)) (length es) (totals n says es .marks)
-  total-marks =
-      counts-same (λ p l h. let m = is-mark (h .0) (h .2) in (m .0, rw (m .1) at (h .1))) (λ p l h. (mark (h .0), h .1, refl)) (marks-counted n says es)
-
-  pub total-sends : Counts (λ p. (i j m : ℕ) × At es p (send i j m)) (length es) (totals n says es .sends)
-  total-sends =
-      counts-same (λ p l h. let m = is-send (h .0) (h .2) in (m .0, m .1, m .2, rw (m .3) at (h .1))) (λ p l h. (send (h .0) (h .1) (h .2), h .3, refl)) (sends-counted n says es)
+  pub total-sends : (es : List Event) → Counts (λ p. (i j m : ℕ) × At es p (send i j m)) (length es) (totals n says es .sends)
+  total-sends es =
+      counts-same (λ p l h. (h .0 .0, h .0 .1, h .0 .2, h .1)) (λ p l h. ((h .0, h .1, h .2), h .3)) (sends-counted es)
 
 -- there are as many answers as marks
 pub answers-many : (n : ℕ) (says : List Event → ℕ → ℕ → ℕ → Entry) (state : List Event → State) (es : List Event)
@@ -130,8 +115,7 @@ full-carried n [] = sym (mul-zero n)
 full-carried n (idle i ∷ past) = full-carried n past
 full-carried n (mark i ∷ past) = full-carried n past
 full-carried n (send i j m ∷ past) =
-    let t = totals n (λ past. whole (full past)) past in
-    omega (arith, full-carried n past, full-entries n (full past) i j, mul-suc n (t .sends))
+    omega (arith, full-carried n past, full-entries n (full past) i j)
 full-carried n (receipt j m ∷ past) = full-carried n past
 
 -- short messages carry what is due, in all

@@ -9,7 +9,7 @@ use Rattle.order.specs.Order.{Event, send, receipt, Flying, Counts}
 use Rattle.machine.specs.Machine.{present, full}
 use Rattle.machine.specs.Short.{Knowledge, short}
 
--- the message in flight at the end of the cut with number m carries k's count c
+-- the letter last sent under number m, up to the end of the cut, carries k's count c
 abbrev pub Carries : Knowledge → List Event → ℕ → ℕ → ℕ → Type 0
 Carries K es m k c = (x : Bool) × (short K es .state .letter m .entry k ≡ present c x)
 

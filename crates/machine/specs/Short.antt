@@ -21,6 +21,7 @@ unfoldable pub offer : ℕ → Bool → Bool → Entry
 offer zero x spared = absent
 offer (suc c) x spared = cond spared absent (present (suc c) x)
 
+-- the machine's state, and what the nodes hold
 pub record Short (K : Knowledge) : Type 0 where
   pub state : State
   pub held : K .Held
@@ -46,6 +47,7 @@ unfoldable pub note : ℕ → ℕ → Entry → (ℕ → Bool) → ℕ → Bool
 note j c absent column = column
 note j c (present d y) column = cond (ltb c d) (put j true (λ l. false)) (cond (ltb d c) column (put j true column))
 
+-- a mark empties its own column, for its count is new; a receipt notes each entry of the letter
 unfoldable pub learnColumns : Event → State → Columns → Columns
 learnColumns (idle i) s held = held
 learnColumns (mark i) s held = put i (put i (λ j. false) (held i)) held

@@ -2,10 +2,9 @@
 -- on the count.
 -- Assumes nothing.
 use mathlib.Core.Path.{_≡_, refl, ap, subst}
-use mathlib.Core.Logic.{_⊎_, inl, inr, ⊎-elim}
+use mathlib.Core.Logic.{⊎-elim}
 use Prim.Native.Nat.{ℕ, suc, _<_, _≤_}
-use native.Mathlib.Nat.{le-refl}
-use native.Mathlib.Decide.{decLe}
+use native.Mathlib.Nat.{le-refl, eq-or-lt-of-le}
 use native.Mathlib.Omega.{arith}
 use Rattle.order.specs.Order.{Counts, counts-zero, counts-yes, counts-no}
 
@@ -27,17 +26,10 @@ counts-same f g (counts-no {m = m} x a) = counts-no (λ y. x (g m (le-refl _) y)
 same-end : {P : ℕ → Type 0} {l m c d : ℕ} → l ≡ m → Counts P l c → Counts P m d → c ≤ d
 same-end {P} {c = c} e a b = let z = counts-unique (subst (λ (x : ℕ). Counts P x c) e a) b in omega arith
 
-end-cases : (l m : ℕ) → l ≤ suc m → (l ≡ suc m) ⊎ (l ≤ m)
-end-cases l m h = go (decLe l m)
-  where
-    go : Dec (l ≤ m) → (l ≡ suc m) ⊎ (l ≤ m)
-    go (yes k) = inr k
-    go (no k) = inl (omega arith)
-
 -- a count does not fall as its end moves on
 pub counts-grow : {P : ℕ → Type 0} {l m c d : ℕ} → l ≤ m → Counts P l c → Counts P m d → c ≤ d
-counts-grow {l = l} h a (counts-yes {m = m} x b) = ⊎-elim (λ e. same-end e a (counts-yes x b)) (λ l. let g = counts-grow l a b in omega arith) (end-cases l m h)
-counts-grow {l = l} h a (counts-no {m = m} x b) = ⊎-elim (λ e. same-end e a (counts-no x b)) (λ l. counts-grow l a b) (end-cases l m h)
+counts-grow h a (counts-yes x b) = ⊎-elim (λ e. same-end e a (counts-yes x b)) (λ l. let g = counts-grow (omega arith) a b in omega arith) (eq-or-lt-of-le h)
+counts-grow h a (counts-no x b) = ⊎-elim (λ e. same-end e a (counts-no x b)) (λ l. counts-grow (omega arith) a b) (eq-or-lt-of-le h)
 counts-grow h a counts-zero = same-end (omega arith) a counts-zero
 
 -- and it rises past a place that has the property
@@ -49,7 +41,7 @@ counts-rise h x a (counts-no y b) = absurd (y x)
 
 -- a place that has a property that the last place has not is an earlier one
 earlier : (P : ℕ → Type 0) {p m : ℕ} → p < suc m → P p → ¬ P m → p < m
-earlier P {p} {m} h y x = ⊎-elim (λ e. let q : p ≡ m = omega arith in absurd (x (subst P q y))) (λ l. l) (end-cases (suc p) m h)
+earlier P {p} {m} h y x = ⊎-elim (λ e. let q : p ≡ m = omega arith in absurd (x (subst P q y))) (λ l. omega arith) (eq-or-lt-of-le h)
 
 -- a property of more places has no smaller count
 pub counts-more : {P Q : ℕ → Type 0} {m c d : ℕ} → ((p : ℕ) → p < m → P p → Q p) → Counts P m c → Counts Q m d → c ≤ d
@@ -75,9 +67,9 @@ counts-exceed {Q = Q} p f h y x (counts-no z a) (counts-no w b) = counts-exceed 
 pub counts-decide : {P : ℕ → Type 0} {m c p : ℕ} → p < m → Counts P m c → Dec (P p)
 counts-decide h counts-zero = absurd (omega arith)
 counts-decide {P} {p = p} h (counts-yes {m = m} x a) =
-    ⊎-elim (λ e. let q : m ≡ p = omega arith in yes (subst P q x)) (λ l. counts-decide l a) (end-cases (suc p) m h)
+    ⊎-elim (λ e. let q : m ≡ p = omega arith in yes (subst P q x)) (λ l. counts-decide (omega arith) a) (eq-or-lt-of-le h)
 counts-decide {P} {p = p} h (counts-no {m = m} x a) =
-    ⊎-elim (λ e. let q : p ≡ m = omega arith in no (λ y. x (subst P q y))) (λ l. counts-decide l a) (end-cases (suc p) m h)
+    ⊎-elim (λ e. let q : p ≡ m = omega arith in no (λ y. x (subst P q y))) (λ l. counts-decide (omega arith) a) (eq-or-lt-of-le h)
 
 -- a count is no more than its places
 pub counts-bound : {P : ℕ → Type 0} {m c : ℕ} → Counts P m c → c ≤ m

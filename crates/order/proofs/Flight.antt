@@ -12,7 +12,12 @@ use lib.Dec.{eqb}
 use lib.ListN.{length}
 use borrow.Author.Tests.{ne-eqb, eqb-true, eqb-false}
 use Rattle.order.specs.Order.{Event, idle, mark, send, receipt, Names, Flying, flying-head, flying-tail}
-use Rattle.order.specs.Flight.{Message, without, inFlight, Distinct, distinct-nil, distinct-cons}
+use Rattle.order.specs.Flight.{Message, without, inFlight}
+
+-- no two messages of the list have one number
+pub data Distinct : List Message → Type 0 where
+  distinct-nil : Distinct []
+  distinct-cons : {x : Message} {xs : List Message} → ((y : Message) → List·Memᴰ y xs → y .number ≢ x .number) → Distinct xs → Distinct (x ∷ xs)
 
 -- ---- without a number
 

@@ -7,7 +7,7 @@ use Prim.Native.Nat.{ℕ, _<_, _≤_}
 use native.Mathlib.Omega.{arith}
 use lib.ListN.{length, length-append}
 use Rattle.order.specs.Order.{Event, At, at-tail, Link, link-tail, Before, counts-yes, counts-no, Stamp, Numbered, Nearest, Sound, sound-cons}
-use Rattle.order.proofs.Places.{at-down, link-down}
+use Rattle.order.proofs.Places.{at-bound, at-down, link-down}
 use Rattle.order.proofs.Before.{before-forward, before-up, before-down, within-le, within-up, within-down}
 use Rattle.order.proofs.Counts.{counts-same}
 
@@ -32,6 +32,15 @@ module _ (past later : List Event) where
 
 -- ---- stamps, numbers and direct predecessors, an event more
 
+module _ {x : Event} {past : List Event} where
+  pub numbered-up : {k e c : ℕ} → Numbered past k e c → Numbered (x ∷ past) k e c
+  numbered-up m =
+      let old = at-bound (m .0) in
+      (at-tail (m .0), counts-same (λ p h a. at-tail a) (λ p h a. at-down (omega arith) a) (m .1))
+
+  pub numbered-down : {k e c : ℕ} → e < length past → Numbered (x ∷ past) k e c → Numbered past k e c
+  numbered-down old m = (at-down old (m .0), counts-same (λ p h a. at-down (omega arith) a) (λ p h a. at-tail a) (m .1))
+
 module _ {x : Event} {past : List Event} {e : ℕ} (old : e < length past) where
   stamp-up : {k c : ℕ} → Stamp past e k c → Stamp (x ∷ past) e k c
   stamp-up s =
@@ -41,12 +50,6 @@ module _ {x : Event} {past : List Event} {e : ℕ} (old : e < length past) where
   stamp-down : {k c : ℕ} → Stamp (x ∷ past) e k c → Stamp past e k c
   stamp-down (counts-yes a s) = let h = within-le (a .1) in absurd (omega arith)
   stamp-down (counts-no a s) = counts-same (λ p h a. (at-down h (a .0), within-down old (a .1))) (λ p h a. (at-tail (a .0), within-up (a .1))) s
-
-  numbered-up : {k c : ℕ} → Numbered past k e c → Numbered (x ∷ past) k e c
-  numbered-up m = (at-tail (m .0), counts-same (λ p h a. at-tail a) (λ p h a. at-down (omega arith) a) (m .1))
-
-  numbered-down : {k c : ℕ} → Numbered (x ∷ past) k e c → Numbered past k e c
-  numbered-down m = (at-down old (m .0), counts-same (λ p h a. at-down (omega arith) a) (λ p h a. at-tail a) (m .1))
 
   nearest-up : {k f : ℕ} → Nearest past k f e → Nearest (x ∷ past) k f e
   nearest-up m = (
@@ -65,7 +68,7 @@ module _ (past later : List Event) {e : ℕ} (old : e < length past) where
   stamp-grown {k} {c} = grown (λ es. Stamp es e k c) past (λ x es l. (stamp-up (omega arith), stamp-down (omega arith))) later
 
   pub numbered-grown : {k c : ℕ} → Numbered past k e c ↔ Numbered (later ++ past) k e c
-  numbered-grown {k} {c} = grown (λ es. Numbered es k e c) past (λ x es l. (numbered-up (omega arith), numbered-down (omega arith))) later
+  numbered-grown {k} {c} = grown (λ es. Numbered es k e c) past (λ x es l. (numbered-up, numbered-down (omega arith))) later
 
   pub nearest-grown : {k f : ℕ} → Nearest past k f e ↔ Nearest (later ++ past) k f e
   nearest-grown {k} {f} = grown (λ es. Nearest es k f e) past (λ x es l. (nearest-up (omega arith), nearest-down (omega arith))) later

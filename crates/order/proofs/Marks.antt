@@ -3,7 +3,7 @@
 -- Assumes nothing.
 use mathlib.Core.Path.{_≡_, refl}
 use mathlib.Core.List.{List}
-use Prim.Native.Nat.{ℕ, suc, _<_}
+use Prim.Native.Nat.{ℕ, _<_}
 use native.Mathlib.Decide.{decLt}
 use native.Mathlib.Omega.{arith}
 use Rattle.order.specs.Order.{Event, Before, Numbered, Nearest, Stamp}
@@ -32,7 +32,7 @@ numbered-before {f = f} {g = g} m n h = node-order refl (m .0) (n .0) (earlier (
   where
     earlier : Dec (f < g) → f < g
     earlier (yes l) = l
-    earlier (no l) = let z = counts-grow {l = suc g} (omega arith) (n .1) (m .1) in absurd (omega arith)
+    earlier (no l) = let z = counts-grow (omega arith) (n .1) (m .1) in absurd (omega arith)
 
 -- a number has one mark
 pub numbered-place : {es : List Event} {k f g c : ℕ} → Numbered es k f c → Numbered es k g c → f ≡ g

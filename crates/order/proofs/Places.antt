@@ -20,7 +20,7 @@ at-cases at-head = inl (refl, refl)
 at-cases (at-tail a) = inr a
 
 pub at-down : {x e : Event} {past : List Event} {p : ℕ} → p < length past → At (x ∷ past) p e → At past p e
-at-down h a = ⊎-elim (λ c. let z = c .0 in absurd (omega arith)) (λ b. b) (at-cases a)
+at-down h a = ⊎-elim (λ c. absurd (omega arith)) (λ b. b) (at-cases a)
 
 pub at-unique : {es : List Event} {p : ℕ} {e f : Event} → At es p e → At es p f → e ≡ f
 at-unique at-head b = ⊎-elim (λ c. c .1) (λ c. let h = at-bound c in absurd (omega arith)) (at-cases b)
@@ -74,4 +74,4 @@ link-forward (link-message f) = let h = flying-bound f in omega arith
 link-forward (link-tail l) = let h = link-forward l in omega arith
 
 pub link-down : {e : Event} {past : List Event} {a b : ℕ} → b < length past → Link (e ∷ past) a b → Link past a b
-link-down h l = ⊎-elim (λ k. k) (λ c. let z = c .0 in absurd (omega arith)) (link-cases l)
+link-down h l = ⊎-elim (λ k. k) (λ c. absurd (omega arith)) (link-cases l)

@@ -1,4 +1,4 @@
--- 01's logs A and B as cuts of events, the latest first; crates/log shows that they are what the bytes say.
+-- 01's logs A and B as cuts of events, the latest first; crates/verdict shows that they are what the bytes say.
 -- Assumes nothing.
 use mathlib.Core.List.{List, [], _∷_}
 use Rattle.order.specs.Order.{Event, mark, send, receipt}

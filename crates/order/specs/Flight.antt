@@ -1,9 +1,8 @@
 -- The messages in flight at the end of a cut, as a list that computes. proofs/Flight.antt shows that they are just those
 -- that fly, and no number twice, so that the list's length is how many are in flight.
 -- Assumes nothing.
-use mathlib.Core.Logic.{_≢_}
 use mathlib.Core.Bool.{cond}
-use mathlib.Core.List.{List, [], _∷_, List·Memᴰ}
+use mathlib.Core.List.{List, [], _∷_}
 use Prim.Native.Nat.{ℕ}
 use lib.Dec.{eqb}
 use lib.ListN.{length}
@@ -28,8 +27,3 @@ inFlight (idle i ∷ past) = inFlight past
 inFlight (mark i ∷ past) = inFlight past
 inFlight (send i j m ∷ past) = record { number = m; from = i; to = j; sent = length past } ∷ without m (inFlight past)
 inFlight (receipt j m ∷ past) = without m (inFlight past)
-
--- no two messages of the list have one number
-pub data Distinct : List Message → Type 0 where
-  distinct-nil : Distinct []
-  distinct-cons : {x : Message} {xs : List Message} → ((y : Message) → List·Memᴰ y xs → y .number ≢ x .number) → Distinct xs → Distinct (x ∷ xs)

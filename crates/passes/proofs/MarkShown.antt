@@ -19,7 +19,7 @@ use Rattle.room.proofs.Places.{row-within}
 use Rattle.room.proofs.BothModes.{mode-counts, mode-flags}
 use Rattle.steps.specs.Steps.{Ready}
 use Rattle.steps.proofs.Parts.{part-at, part-length}
-use Rattle.steps.proofs.Ready.{ready-sizes, ready-nodes, ready-node, ready-counts}
+use Rattle.steps.proofs.Ready.{ready-nodes, ready-node, ready-counts}
 use Rattle.groups.specs.Groups.{groupOf, rowAnswer, Written}
 use Rattle.groups.proofs.GroupSizes.{group-some}
 use Rattle.groups.proofs.GroupsSame.{group-same}
@@ -39,11 +39,11 @@ module _
     row = take k (drop (n * i) counts)
 
     row-length : length row ≡ n
-    row-length = part-length counts (n * i) k (omega (arith, mark-row, whole, ready-sizes ready .0)) ∙ whole
+    row-length = part-length counts (n * i) k (omega (arith, mark-row)) ∙ whole
 
     row-at : (j : ℕ) → j < n → getD row j 0 ≡ full cut .count i j
     row-at j h =
-        part-at counts (n * i) k j (omega (arith, whole)) ∙ ready .holds .rows .counted i j (ready-node ready) h
+        part-at counts (n * i) k j (omega arith) ∙ ready .holds .rows .counted i j (ready-node ready) h
         ∙ mode-counts mode (lawful-past (ready .lawful) .sound) i j
 
     flag-at : (j : ℕ) → j < n → bit (getD words i 0) j ≡ full cut .flag i j
@@ -54,12 +54,12 @@ module _
     -- what writing the group asks
     pub mark-asks : ((i < length row) × (length row ≤ 32) × (getD row i 0 < 65535)) × ((j : ℕ) → length row ≤ j → bit (getD words i 0) j ≡ false)
     mark-asks = (
-      (omega (arith, row-length, ready-node ready), omega (arith, row-length, ready-nodes ready .1), small),
-      λ j h. ready .holds .rows .flagged i j (ready-node ready) ∙ ap (λ (b : Bool). b && barn mode cut .state .flag i j) (le-ltb j n (omega (arith, h, row-length))),
+      (omega (arith, row-length, ready-node ready), omega (arith, row-length), small),
+      λ j h. ready .holds .rows .flagged i j (ready-node ready) ∙ ap (λ (b : Bool). b && barn mode cut .state .flag i j) (le-ltb j n (omega (arith, row-length))),
     )
       where
         small : getD row i 0 < 65535
-        small = rw (part-at counts (n * i) k i (omega (arith, whole, ready-node ready))) (omega (arith, ready-counts ready (n * i + i)))
+        small = rw (part-at counts (n * i) k i (omega (arith, ready-node ready))) (omega (arith, ready-counts ready (n * i + i)))
 
     -- the group is the machine's
     mark-group : groupOf (length row) (rowAnswer i row (getD words i 0)) ≡ groupBy n cut (mark i)
@@ -69,6 +69,6 @@ module _
     pub mark-written : (at : ℕ) {from rest size : ℕ} {report back : List ℕ} → from ≡ min at (length report) → rest ≡ length report - from
         → Written 0 (groupOf (length row) (rowAnswer i row (getD words i 0))) (midOf from rest report) back size
         → Written at (groupBy n cut (mark i)) report (putMid from rest report back) size
-    mark-written at {from} {rest} {report = report} {back} here tail w =
+    mark-written at {from} {rest} {report = report} here tail w =
         written-behind at (omega (arith, group-some n (answer n i (full cut))))
-        (rw (← here) (written-part from rest (groupBy n cut (mark i)) report (omega (arith, here)) tail (rw mark-group at w)))
+        (rw (← here) (written-part from rest (groupBy n cut (mark i)) report (omega arith) tail (rw mark-group at w)))

@@ -22,7 +22,7 @@ use Rattle.room.specs.Room.{barn, Holds}
 use Rattle.steps.specs.Steps.{carriedBy, Ready}
 use Rattle.steps.proofs.Carried.{carried-more}
 use Rattle.groups.specs.Groups.{groupsOf, laid, written, Written}
-use Rattle.groups.proofs.Laying.{laid-next, laid-length, reached-none}
+use Rattle.groups.proofs.Laying.{laid-next, laid-length, laid-none}
 use Rattle.groups.proofs.GroupSizes.{group-most}
 use Rattle.groups.proofs.GroupsSame.{groups-more}
 use Rattle.passes.specs.declared.Tally.{Tally}
@@ -42,7 +42,7 @@ report-more n cut (receipt j m) = sym (append-nil _)
 
 alike : {a b c d x a′ b′ c′ d′ x′ : ℕ} → a ≡ a′ → b ≡ b′ → c ≡ c′ → d ≡ d′ → x ≡ x′
     → _≡_ {A = Tally} (record { events = a; marks = b; sends = c; carried = d; bytes = x }) (record { events = a′; marks = b′; sends = c′; carried = d′; bytes = x′ })
-alike p q r s t = rw p (rw q (rw r (rw s (rw t refl))))
+alike p q r s t = rw (p, q, r, s, t)
 
 -- the tally by what the event counts
 pub tally-more : (mode : Mode) (n : ℕ) (cut : List Event) (e : Event)
@@ -117,19 +117,18 @@ tally-most mode n h (e ∷ cut) = subst (Most (suc (length cut))) (tally-more mo
     next : {t : Tally} → Most (length cut) t → Most (suc (length cut)) (counted e (carriedBy mode n cut e) (length (groupBy n cut e)) t)
     next m =
         record {
-          events-are = omega (arith, m .events-are);
-          marks-most = omega (arith, m .marks-most, one-most e .0);
-          sends-most = omega (arith, m .sends-most, one-most e .1);
-          carried-less = omega (arith, m .carried-less, carried-most mode n cut e);
-          bytes-less = omega (arith, m .bytes-less, group-by-most n cut e h);
+          events-are = omega arith;
+          marks-most = omega (arith, one-most e .0);
+          sends-most = omega (arith, one-most e .1);
+          carried-less = omega (arith, carried-most mode n cut e);
+          bytes-less = omega (arith, group-by-most n cut e h);
         }
 
 -- the tally of a lawful cut is small
 pub tally-small : (mode : Mode) {n : ℕ} {cut : List Event} → Lawful n cut → Small (tallyOf mode n cut)
 tally-small mode {n} {cut} ok =
     let m = tally-most mode n (ok .few-nodes) cut in
-    let few = ok .few-events in
-    (omega (arith, m .events-are), omega (arith, m .marks-most), omega (arith, m .sends-most), omega (arith, m .carried-less), omega (arith, m .bytes-less))
+    (omega (arith, m .events-are), omega (arith, m .marks-most), omega arith, omega arith, omega arith)
 
 -- ---- written
 
@@ -138,7 +137,7 @@ pub written-none : (at : ℕ) (room : List ℕ) → Written at [] room room 0
 written-none at room = record { size-is = refl; room-is = go (leb (at + 0) (length room)) }
   where
     go : (b : Bool) → room ≡ cond b (laid at [] room) room
-    go true = reached-none at room .room-is
+    go true = laid-none at room
     go false = refl
 
 -- what is written changes no length
@@ -161,13 +160,12 @@ written-behind {bytes} {room} at some w = record { size-is = w .size-is; room-is
     go : Dec (at ≤ length room)
         → cond (leb (min at (length room) + length bytes) (length room)) (laid (min at (length room)) bytes room) room
         ≡ cond (leb (at + length bytes) (length room)) (laid at bytes room) room
-    go (yes h) = let e : min at (length room) ≡ at = omega arith in rw e refl
+    go (yes h) = let e : min at (length room) ≡ at = omega arith in rw e
     go (no h) =
         rw (
           lt-leb (min at (length room) + length bytes) (length room) (omega arith),
           lt-leb (at + length bytes) (length room) (omega arith),
         )
-        refl
 
 -- ---- noted
 
@@ -179,13 +177,13 @@ pub noted-small : {mode : Mode} {n : ℕ} {cut : List Event} {e : Event} {slot a
 noted-small {mode} {n} {cut} {e} ready noted written carries =
     let ok = lawful-past (ready .lawful) in
     let few = ok .few-nodes in
-    (rw (noted .tallied) (tally-small mode ok), omega (arith, carries, carried-most mode n cut e), omega (arith, written .size-is, group-by-most n cut e few))
+    (rw (noted .tallied) (tally-small mode ok), omega (arith, carries, carried-most mode n cut e), omega (arith, group-by-most n cut e few))
 
 -- before the first event, in a report room as it came
 pub noted-none : (mode : Mode) (n : ℕ) {room counts words mail : List ℕ} → Holds n (barn mode []) counts words mail
     → Noted mode n [] room counts words mail room (bytesAlone 0)
 unfolding tallyOf totals reportOf answers groupsOf shownIn
-noted-none mode n {room} h = record { holds = h; tallied = refl; shown = refl }
+noted-none mode n h = record { holds = h; tallied = refl; shown = refl }
 
 -- with one event more, whose group was written behind the others
 pub noted-more : (mode : Mode) (n : ℕ) (cut : List Event) (e : Event) {room counts words mail report counts′ words′ mail′ report′ : List ℕ} {tally : Tally}
@@ -197,8 +195,8 @@ unfolding tallyOf shownIn
 noted-more mode n cut e old w follows =
     record {
       holds = follows .0;
-      tallied = rw (follows .1) (rw (w .size-is) (rw (old .tallied) (tally-more mode n cut e)));
-      shown = w .room-is ∙ rw (old .tallied) (rw (old .shown) refl);
+      tallied = rw (follows .1, w .size-is, old .tallied) (tally-more mode n cut e);
+      shown = w .room-is ∙ rw (old .tallied, old .shown);
     }
 
 -- ---- shown
@@ -216,10 +214,10 @@ noted-sized {n = n} {cut} {room} h = ap length (h .shown) ∙ shown-length n roo
 -- where there is space for the whole report of the cut, it stands at the front of the room
 pub shown-fits : (n : ℕ) (room : List ℕ) (cut : List Event) → length (reportOf n cut) ≤ length room → shownIn n room cut ≡ laid 0 (reportOf n cut) room
 unfolding shownIn reportOf answers groupsOf
-shown-fits n room [] fit = reached-none 0 room .room-is
+shown-fits n room [] fit = laid-none 0 room
 shown-fits n room (e ∷ cut) fit =
-    written-there (length (reportOf n cut)) (groupBy n cut e) (shownIn n room cut) (omega (arith, fit, grown, shown-length n room cut))
-    ∙ rw (shown-fits n room cut (omega (arith, fit, grown)))
+    written-there (length (reportOf n cut)) (groupBy n cut e) (shownIn n room cut) (omega (arith, grown, shown-length n room cut))
+    ∙ rw (shown-fits n room cut (omega (arith, grown)))
     (ap (λ (at : ℕ). laid at (groupBy n cut e) (laid 0 (reportOf n cut) room)) (sym (zero-add (length (reportOf n cut))))
     ∙ laid-next 0 (reportOf n cut) (groupBy n cut e) room (omega arith))
     ∙ ap (λ (r : List ℕ). laid 0 r room) (sym (report-more n cut e))

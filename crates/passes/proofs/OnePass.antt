@@ -1,6 +1,7 @@
 -- A pass has one result: after so many events one place and one cut are reached, and none further than where the log is refused.
 -- Assumes nothing.
 use mathlib.Core.Path.{_≡_, refl, sym, _∙_, ap}
+use mathlib.Core.Bool.{false≢true}
 use mathlib.Core.List.{List}
 use Prim.Native.Nat.{ℕ, suc, _≤_}
 use native.Mathlib.Decide.{decLe}
@@ -10,8 +11,7 @@ use Rattle.order.specs.Order.{Event}
 use Rattle.log.specs.Record.{recordAt}
 use Rattle.log.specs.declared.Record.{Record}
 use Rattle.log.specs.declared.Cursor.{Cursor}
-use Rattle.log.specs.declared.Step.the-variants.{Read, Unknown, Short}
-use Rattle.log.specs.declared.Opening.the-variants.{Nodes}
+use Rattle.log.specs.declared.Step.the-variants.{Read}
 use Rattle.verdict.specs.Table.{Reached, reached-first, reached-next, Passes, row-accepted, row-refused}
 use Rattle.verdict.proofs.Rules.{breaks-first, passes-first}
 use Rattle.verdict.proofs.Verdict.{row-unique, not-accepted}
@@ -26,37 +26,34 @@ use Rattle.passes.proofs.Turns.{halts-refused}
 -- after so many events one place and one cut are reached
 reached-one : {log : List ℕ} {n p p₂ : ℕ} {cut cut₂ : List Event} → Reached log n p cut → Reached log n p₂ cut₂ → length cut ≡ length cut₂
     → (p ≡ p₂) × (cut ≡ cut₂)
-reached-one {log} {n} (reached-first {c = c} e) (reached-first {c = d} f) h =
-    let one : Nodes n c ≡ Nodes n d = sym e ∙ f in
+reached-one {n = n} (reached-first {c = c} e) (reached-first {c = d} f) h =
     let same : c ≡ d = cc in
     (ap (λ (c : Cursor). c .at) same, refl)
-reached-one (reached-first e) (reached-next b f k) h = absurd (omega (arith, h))
-reached-one (reached-next b e k) (reached-first f) h = absurd (omega (arith, h))
-reached-one {log} (reached-next {p = p} {cut = cut} {r = r} {c = c} b e k) (reached-next {p = p₂} {cut = cut₂} {r = s} {c = d} b₂ f k₂) h =
-    let before = reached-one b b₂ (omega (arith, h)) in
-    let one : Read r c ≡ Read s d = sym e ∙ ap (recordAt log) (before .0) ∙ f in
+reached-one (reached-first e) (reached-next b f k) h = absurd (omega arith)
+reached-one (reached-next b e k) (reached-first f) h = absurd (omega arith)
+reached-one {log} (reached-next {r = r} {c = c} b e k) (reached-next {r = s} {c = d} b₂ f k₂) h =
+    let before = reached-one b b₂ (omega arith) in
     let place : c ≡ d = cc in
     let event : r ≡ s = cc in
-    (ap (λ (c : Cursor). c .at) place, rw event (rw (before .1) refl))
+    (ap (λ (c : Cursor). c .at) place, rw (event, before .1))
 
 -- a record that is refused does not pass
 halts-last : {log : List ℕ} {n p x q : ℕ} {cut : List Event} {r : Record} {c : Cursor} → Halts log n p cut x q → recordAt log p ≡ Read r c → ¬ Passes n cut r
-halts-last {log} {n} {p} {cut = cut} {r} {c} (halts-4 {q = q} e) f k = absurd (let one : Unknown q ≡ Read r c = sym e ∙ f in let z : _≡_ {A = ℕ} 0 1 = cc in omega arith)
-halts-last {log} {n} {p} {cut = cut} {r} {c} (halts-5 {q = q} e) f k = absurd (let one : Short q ≡ Read r c = sym e ∙ f in let z : _≡_ {A = ℕ} 0 1 = cc in omega arith)
-halts-last {log} {n} {p} {cut = cut} {r} {c} (halts-rule {r = s} {c = d} e b) f k =
-    let one : Read s d ≡ Read r c = sym e ∙ f in
+halts-last {r = r} {c} (halts-4 e) f k = absurd (false≢true (cc))
+halts-last {r = r} {c} (halts-5 e) f k = absurd (false≢true (cc))
+halts-last {n = n} {p} {cut = cut} {r} {c} (halts-rule {r = s} e b) f k =
     let same : s ≡ r = cc in
     let first = rw same at (breaks-first n cut p b) in
-    absurd (let clash = sym (passes-first n cut p r k) ∙ first in let z : _≡_ {A = ℕ} 0 1 = cc in omega arith)
+    absurd (let clash = sym (passes-first n cut p r k) ∙ first in false≢true (cc))
 
 -- and nothing is reached behind it
 halts-most : {log : List ℕ} {n p x q p₂ : ℕ} {cut cut₂ : List Event} → Reached log n p cut → Halts log n p cut x q → Reached log n p₂ cut₂
     → length cut₂ ≤ length cut
 halts-most here stop (reached-first e) = omega arith
-halts-most {log} {n} {cut = cut} here stop (reached-next {p = q} {cut = past} {r = r} {c = c} b e k) = go (halts-most here stop b) (decLe (length cut) (length past))
+halts-most {cut = cut} here stop (reached-next {cut = past} {r = r} {c = c} b e k) = go (halts-most here stop b) (decLe (length cut) (length past))
   where
     go : length past ≤ length cut → Dec (length cut ≤ length past) → suc (length past) ≤ length cut
-    go h (yes l) = let same = reached-one here b (omega (arith, h)) in absurd (halts-last {r = r} {c = c} stop (rw (same .0) e) (rw (same .1) k))
+    go h (yes l) = let same = reached-one here b (omega arith) in absurd (halts-last {r = r} {c = c} stop (rw (same .0) e) (rw (same .1) k))
     go h (no l) = omega arith
 
 -- ---- one result
@@ -66,7 +63,7 @@ module _ {mode : Mode} {log : List ℕ} {n : ℕ} {room : List ℕ} where
   stands-one : {p p₂ : ℕ} {cut cut₂ : List Event} {counts words mail report counts₂ words₂ mail₂ report₂ : List ℕ} {t t₂ : Tally}
       → cut ≡ cut₂ → Stands mode log n p cut room counts words mail report t → Stands mode log n p₂ cut₂ room counts₂ words₂ mail₂ report₂ t₂
       → (t ≡ t₂) × (counts ≡ counts₂) × (words ≡ words₂) × (mail ≡ mail₂) × (report ≡ report₂)
-  stands-one {cut = cut} same a b₀ =
+  stands-one same a b₀ =
       let b = rw (← same) at b₀ in
       let rooms = one-room (a .noted .holds) (b .noted .holds) in
       (a .noted .tallied ∙ sym (b .noted .tallied), rooms .0, rooms .1, rooms .2, a .noted .shown ∙ sym (b .noted .shown))
@@ -81,10 +78,10 @@ module _ {mode : Mode} {log : List ℕ} {n : ℕ} {room : List ℕ} where
       (ap Whole (all .0), all .1, all .2, all .3, all .4)
   passing-unique (whole a) (halted b h) = not-accepted (row-unique log (row-refused (halts-refused (b .reached) h)) (row-accepted (a .reached)))
   passing-unique (halted a h) (whole b) = not-accepted (row-unique log (row-refused (halts-refused (a .reached) h)) (row-accepted (b .reached)))
-  passing-unique (halted {cut = cut} {x = x} {q} a h) (halted {cut = cut₂} {x = y} {q = p} b k) =
+  passing-unique (halted {x = x} {q} a h) (halted {x = y} {q = p} b k) =
       let one = row-unique log (row-refused (halts-refused (a .reached) h)) (row-refused (halts-refused (b .reached) k)) in
       let number : x ≡ y = cc in
       let place : q ≡ p = cc in
       let size = reached-one (a .reached) (b .reached) (omega (arith, halts-most (a .reached) h (b .reached), halts-most (b .reached) k (a .reached))) in
       let all = stands-one (size .1) a b in
-      (rw number (rw place refl), all .1, all .2, all .3, all .4)
+      (rw (number, place), all .1, all .2, all .3, all .4)

@@ -36,9 +36,8 @@ module _
   pub stands-mailed : Mailed n cut mail
   stands-mailed = record { lawful = reached-lawful (here .reached); mode = mode; letters = here .noted .holds .letters }
 
-  pub stands-place : (length mail ≡ 4480) × (p + 3 < 2 ^ 64)
-  stands-place =
-      (here .noted .holds .letters .mail-size, omega (arith, reached-length (here .reached), reached-lawful (here .reached) .few-events))
+  pub stands-place : p + 3 < 2 ^ 64
+  stands-place = omega (arith, reached-length (here .reached), reached-lawful (here .reached) .few-events)
 
   -- as many events were counted as the cut has
   pub stands-events : length cut ≡ tally .events

@@ -9,7 +9,6 @@ use Rattle.log.specs.Record.{recordAt}
 use Rattle.log.specs.declared.Record.{Record}
 use Rattle.log.specs.declared.Cursor.{Cursor}
 use Rattle.log.specs.declared.Step.the-variants.{Read, Unknown, Short}
-use Rattle.verdict.specs.Table as table
 use Rattle.verdict.specs.Table.{Reached, Breaks}
 use Rattle.room.specs.declared.Mode.{Mode}
 use Rattle.room.specs.Room.{barn, Holds}
@@ -97,8 +96,3 @@ pub data Passing (mode : Mode) (log : List ℕ) (n : ℕ) (room counts words mai
       → Passing mode log n room counts words mail report (Whole tally)
   halted : {p : ℕ} {cut : List Event} {tally : Tally} {x q : ℕ} → Stands mode log n p cut room counts words mail report tally
       → Halts log n p cut x q → Passing mode log n room counts words mail report (Halted x q)
-
--- what a pass that is only a look tells: the totals of an accepted log, or its refusal
-pub data Looked (mode : Mode) (log : List ℕ) (n : ℕ) : Passed → Type 0 where
-  looked-whole : {cut : List Event} → Reached log n (length log) cut → Looked mode log n (Whole (tallyOf mode n cut))
-  looked-halted : {x q : ℕ} → table.Refused log x q → Looked mode log n (Halted x q)

@@ -7,7 +7,7 @@ use protocol::Admission;
 use room::Mode;
 ghost use mathlib.Core.Path.{_≡_};
 ghost use mathlib.Core.List.{List, [], _∷_};
-ghost use Prim.Native.Nat.{ℕ, _+_, _*_, _^_, _<_, min};
+ghost use Prim.Native.Nat.{ℕ, _^_, _<_};
 ghost use Rattle.order.specs.Order.{Event, mark};
 ghost use Rattle.log.specs.Record.{openingOf};
 ghost use Rattle.log.specs.declared.Opening.the-variants.{Nodes};
@@ -187,15 +187,8 @@ fn show_mark(
     let row = nodes * i;
     let row_end = row + nodes;
     let flags = words[i];
-    let from = within(at, report.len());
+    let from = room::within(at, report.len());
     groups::group(node, &counts[row..row_end], flags, &mut report[from..])
-}
-
-// The place, or the end of a room of this size if the place is behind it.
-fn within(at: usize, size: usize) -> usize
-    ensures { λ r. ⌜ r ≡ min at size ⌝ }
-{
-    if at < size { at } else { size }
 }
 
 // The totals with a record more.

@@ -4,11 +4,11 @@ use log::Node;
 use room::Mode;
 use shape::Mark;
 ghost use mathlib.Core.Path.{_≡_};
-ghost use Prim.Native.Nat.{_+_, _*_, _<_, _≤_, min};
+ghost use Prim.Native.Nat.{_+_, _*_, _<_, _≤_};
 ghost use lib.ListN.{length, getD};
 
-// What a question to run asks: the lengths of the rooms and of the log that follows.
-pub struct Frame {
+// A question to run a log: the lengths of the rooms and of the log that follows.
+pub struct Run {
     pub mode: Mode,
     pub counts: usize,
     pub words: usize,
@@ -17,29 +17,21 @@ pub struct Frame {
     pub log: usize,
 }
 
-// What a question to compare asks: the marks, and the length of the report that follows.
-pub struct Pair {
+// A question to compare two marks, and the length of the report that follows.
+pub struct Compare {
     pub first: Mark,
     pub second: Mark,
     pub report: usize,
 }
 
-// A header, read.
-pub enum Asked {
-    // A run.
-    Run(Frame),
-    // A comparison.
-    Compare(Pair),
-    // A question that is too large.
-    Bad,
-}
-
-// A length, or the most there is room for.
-pub fn within(size: usize, most: usize) -> usize
-    ensures { λ r. ⌜ r ≡ min size most ⌝ }
-    ensures { λ r. ⌜ r ≤ most ⌝ }
-{
-    if size < most { size } else { most }
+// What a header asks.
+pub enum Question {
+    // To run a log.
+    Run(Run),
+    // To compare two marks.
+    Compare(Compare),
+    // More than there is room for.
+    TooLarge,
 }
 
 // The number of two bytes, low byte first.
@@ -63,16 +55,16 @@ fn four_bytes(header: &[u8], at: usize) -> usize
 }
 
 // Reads the header of a run.
-pub fn read_run(mode: Mode, header: &[u8; 14]) -> Asked {
+pub fn read_run(mode: Mode, header: &[u8; 14]) -> Question {
     let counts = two_bytes(header, 0);
     let words = two_bytes(header, 2);
     let mail = two_bytes(header, 4);
     let report = four_bytes(header, 6);
     let log = four_bytes(header, 10);
     if counts > 2048 || words > 2048 || mail > 8192 || report > 131072 || log > 24576 {
-        return Asked::Bad;
+        return Question::TooLarge;
     }
-    Asked::Run(Frame {
+    Question::Run(Run {
         mode,
         counts,
         words,
@@ -95,14 +87,14 @@ fn mark(header: &[u8], at: usize) -> Mark
 }
 
 // Reads the header of a comparison.
-pub fn read_pair(header: &[u8; 10]) -> Asked {
+pub fn read_compare(header: &[u8; 10]) -> Question {
     let first = mark(header, 0);
     let second = mark(header, 3);
     let report = four_bytes(header, 6);
     if report > 40960 {
-        return Asked::Bad;
+        return Question::TooLarge;
     }
-    Asked::Compare(Pair {
+    Question::Compare(Compare {
         first,
         second,
         report,

@@ -13,12 +13,11 @@ mod frame;
 
 use comparing::Compared;
 use digest::Digest;
-use frame::Asked;
-use frame::Frame;
-use frame::Pair;
+use frame::Compare;
+use frame::Question;
+use frame::Run;
 use libc::STDIN_FILENO;
 use libc::STDOUT_FILENO;
-use passes::Tally;
 use report::Answer;
 use room::Mode;
 
@@ -30,41 +29,21 @@ fn print(number: u64, behind: u8) {
 }
 
 // Writes the number, the place and the totals of an answer.
-fn print_answer(number: u8, place: usize, tally: Tally) {
-    print(number as u64, b' ');
-    print(place as u64, b' ');
-    print(tally.events as u64, b' ');
-    print(tally.marks as u64, b' ');
-    print(tally.sends as u64, b' ');
-    print(tally.carried as u64, b' ');
-    print(tally.bytes as u64, b' ');
+fn print_answer(answer: Answer) {
+    let totals = answer.totals();
+    print(answer.number() as u64, b' ');
+    print(answer.place() as u64, b' ');
+    print(totals.events as u64, b' ');
+    print(totals.marks as u64, b' ');
+    print(totals.sends as u64, b' ');
+    print(totals.carried as u64, b' ');
+    print(totals.bytes as u64, b' ');
 }
 
 // Writes a digest and the byte behind it.
 fn print_digest(digest: Digest, behind: u8) {
     print(digest.x as u64, b'.');
     print(digest.y as u64, behind);
-}
-
-// The totals of a refusal: all zero, but for the bytes that a report room lacks.
-fn bytes_alone(bytes: usize) -> Tally {
-    Tally {
-        events: 0,
-        marks: 0,
-        sends: 0,
-        carried: 0,
-        bytes,
-    }
-}
-
-// Writes an answer by 01's number, place and totals.
-fn print_told(answer: Answer) {
-    match answer {
-        Answer::Accepted(place, tally) => print_answer(0, place, tally),
-        Answer::SmallRooms => print_answer(1, 0, bytes_alone(0)),
-        Answer::Refused(number, place) => print_answer(number, place, bytes_alone(0)),
-        Answer::SmallReport(place, bytes) => print_answer(13, place, bytes_alone(bytes)),
-    }
 }
 
 // Fills the four rooms.
@@ -84,7 +63,7 @@ fn print_rooms(counts: &[u16], words: &[u32], mail: &[u16], report: &[u8]) {
 }
 
 // Runs a log in filled rooms and writes the line of answer.
-fn answer(
+fn run_filled(
     mode: Mode,
     log: &[u8],
     counts: &mut [u16],
@@ -93,8 +72,7 @@ fn answer(
     report: &mut [u8],
 ) {
     fill_rooms(counts, words, mail, report);
-    let told = report::run(mode, log, counts, words, mail, report);
-    print_told(told);
+    print_answer(report::run(mode, log, counts, words, mail, report));
     print_rooms(counts, words, mail, report);
 }
 
@@ -104,26 +82,26 @@ fn bad_frame() -> bool {
     false
 }
 
-// Reads the log of a frame into its room and answers it in the fronts of the others; false where the log is cut short.
-fn answer_in(
-    asked: Frame,
+// Reads the log of a question into its room and runs it in the fronts of the others; false where the log is cut short.
+fn run_in(
+    asked: Run,
     log: &mut [u8],
     counts: &mut [u16],
     words: &mut [u32],
     mail: &mut [u16],
     report: &mut [u8],
 ) -> bool {
-    let log_end = frame::within(asked.log, log.len());
+    let log_end = room::within(asked.log, log.len());
     let got = io::read_full(STDIN_FILENO, &mut log[..log_end]);
     if got < log_end {
         return bad_frame();
     }
     let mode = asked.mode;
-    let counts_end = frame::within(asked.counts, counts.len());
-    let words_end = frame::within(asked.words, words.len());
-    let mail_end = frame::within(asked.mail, mail.len());
-    let report_end = frame::within(asked.report, report.len());
-    answer(
+    let counts_end = room::within(asked.counts, counts.len());
+    let words_end = room::within(asked.words, words.len());
+    let mail_end = room::within(asked.mail, mail.len());
+    let report_end = room::within(asked.report, report.len());
+    run_filled(
         mode,
         &log[..log_end],
         &mut counts[..counts_end],
@@ -134,14 +112,14 @@ fn answer_in(
     true
 }
 
-// Answers a frame in rooms of the most that one may ask for.
-fn answer_frame(asked: Frame) -> bool {
+// Answers a question to run, in rooms of the most that one may ask for.
+fn answer_run(asked: Run) -> bool {
     let mut log = [0u8; 24576];
     let mut counts = [0u16; 2048];
     let mut words = [0u32; 2048];
     let mut mail = [0u16; 8192];
     let mut report = [0u8; 131072];
-    answer_in(
+    run_in(
         asked,
         &mut log,
         &mut counts,
@@ -174,9 +152,9 @@ fn print_compared(compared: Compared) {
     }
 }
 
-// Reads the report of a frame into its room and compares in it; false where the report is cut short.
-fn compare_in(asked: Pair, report: &mut [u8]) -> bool {
-    let report_end = frame::within(asked.report, report.len());
+// Reads the report of a question into its room and compares in it; false where the report is cut short.
+fn compare_in(asked: Compare, report: &mut [u8]) -> bool {
+    let report_end = room::within(asked.report, report.len());
     let got = io::read_full(STDIN_FILENO, &mut report[..report_end]);
     if got < report_end {
         return bad_frame();
@@ -186,52 +164,52 @@ fn compare_in(asked: Pair, report: &mut [u8]) -> bool {
     true
 }
 
-// Answers a comparison with room for the longest report that one may bring.
-fn answer_pair(asked: Pair) -> bool {
+// Answers a question to compare, with room for the longest report that one may bring.
+fn answer_compare(asked: Compare) -> bool {
     let mut report = [0u8; 40960];
     compare_in(asked, &mut report)
 }
 
-// Answers what a header asks.
-fn answer_asked(asked: Asked) -> bool {
-    match asked {
-        Asked::Run(run) => answer_frame(run),
-        Asked::Compare(pair) => answer_pair(pair),
-        Asked::Bad => bad_frame(),
+// Answers a question.
+fn answer(question: Question) -> bool {
+    match question {
+        Question::Run(asked) => answer_run(asked),
+        Question::Compare(asked) => answer_compare(asked),
+        Question::TooLarge => bad_frame(),
     }
 }
 
-// Reads the rest of a run's header and answers it.
-fn ask_run(mode: Mode) -> bool {
+// Reads the rest of the header of a run, and answers it.
+fn next_run(mode: Mode) -> bool {
     let mut header = [0u8; 14];
     let got = io::read_full(STDIN_FILENO, &mut header);
     if got < 14 {
         return bad_frame();
     }
-    answer_asked(frame::read_run(mode, &header))
+    answer(frame::read_run(mode, &header))
 }
 
-// Reads the rest of a comparison's header and answers it.
-fn ask_pair() -> bool {
+// Reads the rest of the header of a comparison, and answers it.
+fn next_compare() -> bool {
     let mut header = [0u8; 10];
     let got = io::read_full(STDIN_FILENO, &mut header);
     if got < 10 {
         return bad_frame();
     }
-    answer_asked(frame::read_pair(&header))
+    answer(frame::read_compare(&header))
 }
 
-// Reads and answers one question; false where there is no further one.
-fn ask() -> bool {
+// Reads and answers the next question; false where the input has ended, or the frame is bad.
+fn next() -> bool {
     let mut kind = [0u8; 1];
     let got = io::read_full(STDIN_FILENO, &mut kind);
     if got == 0 {
         return false;
     }
     match kind[0] {
-        0 => ask_run(Mode::Full),
-        1 => ask_run(Mode::Short),
-        2 => ask_pair(),
+        0 => next_run(Mode::Full),
+        1 => next_run(Mode::Short),
+        2 => next_compare(),
         _ => bad_frame(),
     }
 }
@@ -240,7 +218,7 @@ fn ask() -> bool {
 // uses up.
 fn main() {
     let mut turns = u64::MAX;
-    while turns > 0 && ask() {
+    while turns > 0 && next() {
         turns -= 1;
     }
 }

@@ -1,6 +1,6 @@
--- The table has one answer to a record, since the first broken rule is one; and a record that is admitted is ready to be applied.
+-- The table's answer to a record is that of its first broken rule; and a record that is admitted is ready to be applied.
 -- Assumes nothing.
-use mathlib.Core.Path.{_≡_, refl, sym, _∙_}
+use mathlib.Core.Path.{_≡_, refl}
 use mathlib.Core.Option.{Option, none, some}
 use mathlib.Core.List.{List}
 use Prim.Native.Nat.{ℕ}
@@ -31,10 +31,6 @@ pub judged-first : {n : ℕ} {cut : List Event} {p : ℕ} {r : Record} {a : Admi
     → Judges n cut p r a → a ≡ admissionOf (firstBroken (rules n cut p r)) (slotFor cut (eventOf r))
 judged-first {n} {cut} {p} {r} (admits h) = rw (passes-first n cut p r h)
 judged-first {n} {cut} {p} (refuses h) = rw (breaks-first n cut p h)
-
--- so there is one
-pub judges-unique : {n : ℕ} {cut : List Event} {p : ℕ} {r : Record} {a b : Admission} → Judges n cut p r a → Judges n cut p r b → a ≡ b
-judges-unique h k = judged-first h ∙ sym (judged-first k)
 
 -- ---- what an answer tells
 

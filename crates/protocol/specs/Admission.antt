@@ -1,4 +1,4 @@
--- Whether a record may go, as crates/log's table of refusals says.
+-- Whether a record may go, as the table of refusals says (crates/verdict, Table).
 -- Assumes nothing.
 use mathlib.Core.List.{List}
 use Prim.Native.Nat.{ℕ}

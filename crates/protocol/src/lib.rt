@@ -25,7 +25,8 @@ pub enum Admission {
 
 // Whether the record at this place of the log may go after so many events.
 pub fn admit(event: Record, at: usize, events: usize, nodes: usize, mail: &[u16]) -> Admission
-    requires { ⌜ (length (now mail) ≡ 4480) × (at + 3 < 2 ^ 64) ⌝ }
+    requires { ⌜ at + 3 < 2 ^ 64 ⌝ }
+    requires { ⌜ ((cut : List Event) × (length cut ≡ events) × Mailed nodes cut (now mail)) ⌝ }
     ensures { λ r. ⌜ ((cut : List Event) → length cut ≡ events → Mailed nodes cut (now (mail .entry))
         → Judges nodes cut at event r) ⌝ }
 {

@@ -11,6 +11,13 @@ use Rattle.machine.specs.Answer.{Answer}
 abbrev pub numberAt : List ℕ → ℕ → ℕ
 numberAt report p = getD report p 0 + 256 * getD report (p + 1) 0
 
+-- the node of the record at place p, and its number
+abbrev pub nodeAt : List ℕ → ℕ → ℕ
+nodeAt report p = getD report (p + 1) 0
+
+abbrev pub numberHere : List ℕ → ℕ → ℕ
+numberHere report p = numberAt report (p + 2)
+
 -- a whole record of this kind and so many bytes stands at place p
 unfoldable pub wholeAt : ℕ → ℕ → List ℕ → ℕ → Bool
 wholeAt kind size report p = leb (p + size) (length report) && eqb (getD report p 0) kind
@@ -19,11 +26,11 @@ wholeAt kind size report p = leb (p + size) (length report) && eqb (getD report 
 
 -- the count of node k stands at place p
 unfoldable pub stampHere : List ℕ → ℕ → ℕ → Bool
-stampHere report p k = wholeAt 0x22 4 report p && eqb (getD report (p + 1) 0) k
+stampHere report p k = wholeAt 0x22 4 report p && eqb (nodeAt report p) k
 
 -- the count of node k, where it would stand at place p, and the place past it; a missing count is 0
 unfoldable pub countAt : List ℕ → ℕ → ℕ → ℕ
-countAt report p k = cond (stampHere report p k) (numberAt report (p + 2)) 0
+countAt report p k = cond (stampHere report p k) (numberHere report p) 0
 
 unfoldable pub pastCount : List ℕ → ℕ → ℕ → ℕ
 pastCount report p k = cond (stampHere report p k) (p + 4) p
@@ -41,7 +48,7 @@ stampAt report p k = countAt report (stampPlace report p k) k
 -- so many of them at place p, one behind the other, each as a node and a number
 unfoldable pub causesAt : List ℕ → ℕ → ℕ → List (ℕ × ℕ)
 causesAt report p zero = []
-causesAt report p (suc d) = (getD report (p + 1) 0, numberAt report (p + 2)) ∷ causesAt report (p + 4) d
+causesAt report p (suc d) = (nodeAt report p, numberHere report p) ∷ causesAt report (p + 4) d
 
 -- ---- the group
 
@@ -57,7 +64,7 @@ causeCount report p = getD report (p + 4) 0
 unfoldable pub answerAt : List ℕ → ℕ → Answer
 answerAt report p =
     record {
-      node = getD report (p + 1) 0;
+      node = nodeAt report p;
       stamp = stampAt report (p + 5);
       nearest = causesAt report (causePlace report p) (causeCount report p);
     }

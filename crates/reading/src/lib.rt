@@ -4,6 +4,12 @@ ghost use Prim.Native.Nat.{_+_, _≤_, _<_};
 ghost use lib.ListN.{length};
 ghost use Rattle.reading.specs.Reading.{numberAt, wholeAt, stampHere, countAt, pastCount};
 
+// A node's count in a stamp, and the place past it.
+pub struct Count {
+    pub count: u16,
+    pub past: usize,
+}
+
 // Whether a whole record of this kind and so many bytes stands at a place.
 pub fn whole(kind: u8, size: usize, report: &[u8], at: usize) -> bool
     requires { ⌜ (at ≤ length (now report)) × (0 < size) ⌝ }
@@ -36,24 +42,16 @@ pub fn number_at(report: &[u8], at: usize) -> u16
     low + 256 * high
 }
 
-// The count of a node, where it would stand at a place: 0 if it is missing.
-pub fn count_at(report: &[u8], at: usize, node: usize) -> u16
+// The count of a node, where it would stand at a place, and the place past it. A missing count is 0 and takes no bytes.
+pub fn count_at(report: &[u8], at: usize, node: usize) -> Count
     requires { ⌜ at ≤ length (now report) ⌝ }
-    ensures { λ r. ⌜ r ≡ countAt (now (report .entry)) at node ⌝ }
+    ensures { λ r. ⌜ (r .count ≡ countAt (now (report .entry)) at node) × (r .past ≡ pastCount (now (report .entry)) at node) ⌝ }
 {
     if stamp_here(report, at, node) {
-        return number_at(report, at + 2);
+        return Count {
+            count: number_at(report, at + 2),
+            past: at + 4,
+        };
     }
-    0
-}
-
-// The place past the count of a node, if it stands there.
-pub fn past_count(report: &[u8], at: usize, node: usize) -> usize
-    requires { ⌜ at ≤ length (now report) ⌝ }
-    ensures { λ r. ⌜ r ≡ pastCount (now (report .entry)) at node ⌝ }
-{
-    if stamp_here(report, at, node) {
-        return at + 4;
-    }
-    at
+    Count { count: 0, past: at }
 }

@@ -4,7 +4,7 @@
 use mathlib.Core.Path.{_≡_, refl, sym, _∙_, ap, subst}
 use mathlib.Core.Bool.{Bool, true, false, cond}
 use mathlib.Core.List.{List, [], _∷_, _++_, append-nil}
-use Prim.Native.Nat.{ℕ, suc, _<_, _≤_}
+use Prim.Native.Nat.{ℕ, _<_, _≤_}
 use native.Mathlib.Omega.{arith}
 use lib.Dec.{leb}
 use lib.ListN.{length, take, drop, replicate, length-replicate}
@@ -27,14 +27,26 @@ use Rattle.report.specs.declared.Answer.the-variants.{Accepted, SmallRoo
 use Rattle.passes.specs.declared.Passed.{Passed}
 use Rattle.passes.specs.declared.Passed.the-variants.{Whole, Halted}
 use Rattle.passes.specs.Report.{reportOf, tallyOf}
-use Rattle.passes.specs.Pass.{Passing, whole, halted, Looked, looked-whole, looked-halted}
+use Rattle.passes.specs.Pass.{Passing, whole, halted}
 use Rattle.report.specs.Run.{overlong, complete, settled, ending, RoomsAfter, Ran}
-use Rattle.report.specs.Settling.{Zero, FrontAfter, Settles}
+use Rattle.report.specs.Settling.{Looked, looked-whole, looked-halted, Zero, FrontAfter, Settles}
 
 -- ---- clearing rooms of the fixed sizes
 
 all-zero : (size : ℕ) (xs : List ℕ) → length xs ≡ size → zeroed size xs ≡ replicate size 0
 all-zero size xs e = ap (λ (ys : List ℕ). replicate size 0 ++ ys) (subst (λ (n : ℕ). drop n xs ≡ []) e (drop-length xs)) ∙ append-nil _
+
+module _ (counts words mail : List ℕ) {counts′ words′ mail′ : List ℕ}
+    (clear : (counts′ ≡ zeroed 1024 counts) × (words′ ≡ zeroed 1056 words) × (mail′ ≡ zeroed 4480 mail)) where
+  -- the fronts of cleared rooms are zero
+  pub zeroed-zero : Zero (take 1024 counts′) (take 1056 words′) (take 4480 mail′)
+  zeroed-zero =
+      rw (clear .0, clear .1, clear .2)
+      (record { counts-zero = zeroed-front 1024 counts; words-zero = zeroed-front 1056 words; mail-zero = zeroed-front 4480 mail })
+
+  -- and behind them nothing has changed
+  pub zeroed-kept : (drop 1024 counts′ ≡ drop 1024 counts) × (drop 1056 words′ ≡ drop 1056 words) × (drop 4480 mail′ ≡ drop 4480 mail)
+  zeroed-kept = rw (clear .0, clear .1, clear .2) (zeroed-behind 1024 counts, zeroed-behind 1056 words, zeroed-behind 4480 mail)
 
 -- rooms of the fixed sizes are all zero when they are cleared
 pub cleared-zero : {counts words mail counts′ words′ mail′ : List ℕ} {done : Bool} → length counts ≡ 1024 → length words ≡ 1056 → length mail ≡ 4480
@@ -51,7 +63,7 @@ cleared-zero {counts} {words} {mail} {done = done} c w m h =
 
 -- and then they hold the state before any event
 pub zero-holds : (mode : Mode) {n : ℕ} {counts words mail : List ℕ} → Zero counts words mail → Holds n (barn mode []) counts words mail
-zero-holds mode z = rw (z .counts-zero) (rw (z .words-zero) (rw (z .mail-zero) (start-holds mode)))
+zero-holds mode z = rw (z .counts-zero, z .words-zero, z .mail-zero) (start-holds mode)
 
 pub zero-sizes : {counts words mail : List ℕ} → Zero counts words mail → (length counts ≡ 1024) × (length words ≡ 1056) × (length mail ≡ 4480)
 zero-sizes z =
@@ -60,14 +72,14 @@ zero-sizes z =
 -- a room of which no element was lent is as it was
 pub none-lent : (room part : List ℕ) → length part ≡ 0 → part ++ room ≡ room
 none-lent room [] e = refl
-none-lent room (x ∷ part) e = absurd (let z : _≡_ {A = ℕ} (suc (length part)) 0 = e in omega arith)
+none-lent room (x ∷ part) e = absurd (omega arith)
 
 -- ---- after the first pass
 
 -- what a pass tells, whatever it left in the rooms
 pub passing-looked : {mode : Mode} {log : List ℕ} {n : ℕ} {room counts words mail report : List ℕ} {r : Passed}
     → Passing mode log n room counts words mail report r → Looked mode log n r
-passing-looked {mode} {log} {n} (whole {cut = cut} here) =
+passing-looked {mode} {log} {n} (whole here) =
     subst (λ (t : Tally). Looked mode log n (Whole t)) (sym (here .noted .tallied)) (looked-whole (here .reached))
 passing-looked (halted here h) = looked-halted (halts-refused (here .reached) h)
 
@@ -77,7 +89,7 @@ module _ {mode : Mode} {log : List ℕ} {n : ℕ} {room : List ℕ} where
   unfolding settled
   settles-refused (looked-halted h) zero =
       let says = row-verdict log (row-refused h) in
-      record { answered = rw says refl; reported = rw says refl; fronted = rw says zero }
+      record { answered = rw says; reported = rw says; fronted = rw says zero }
 
   pub settles-overlong : {tally : Tally} {counts words mail : List ℕ} → Looked mode log n (Whole tally)
       → length room < tally .bytes → Zero counts words mail → Settles mode log room counts words mail room (SmallReport (length log) (tally .bytes))
@@ -85,7 +97,7 @@ module _ {mode : Mode} {log : List ℕ} {n : ℕ} {room : List ℕ} where
   settles-overlong (looked-whole here) long zero =
       let says = row-verdict log (row-accepted here) in
       let far = lt-leb _ _ long in
-      record { answered = rw says (rw far refl); reported = rw says (rw far refl); fronted = rw says (rw far zero) }
+      record { answered = rw (says, far); reported = rw (says, far); fronted = rw (says, far) zero }
 
   pub settles-complete : {tally : Tally} {counts words mail report : List ℕ} {second : Passed} → Looked mode log n (Whole tally)
       → tally .bytes ≤ length room → Passing mode log n room counts words mail report second
@@ -100,9 +112,9 @@ module _ {mode : Mode} {log : List ℕ} {n : ℕ} {room : List ℕ} where
       let same : again ≡ cut = cc in
       let last = rw same at there in
       record {
-        answered = rw says (rw fit refl);
-        reported = rw says (rw fit (last .noted .shown ∙ shown-fits n room cut near));
-        fronted = rw says (rw fit (last .noted .holds));
+        answered = rw (says, fit);
+        reported = rw (says, fit) (last .noted .shown ∙ shown-fits n room cut near);
+        fronted = rw (says, fit) (last .noted .holds);
       }
 
 -- ---- the whole run
@@ -114,9 +126,9 @@ unfolding ending
 ran-cramped {counts = counts} {words} {mail} small h =
     let unfit : fits counts words mail ≡ false = sym (h .answer) ∙ small in
     record {
-      answer-is = rw unfit refl;
-      report-is = rw unfit refl;
-      rooms-are = rw unfit ((h .counts-are ∙ rw small refl), (h .words-are ∙ rw small refl), (h .mail-is ∙ rw small refl));
+      answer-is = rw unfit;
+      report-is = rw unfit;
+      rooms-are = rw unfit (h .counts-are ∙ rw small, h .words-are ∙ rw small, h .mail-is ∙ rw small);
     }
 
 module _
@@ -125,54 +137,38 @@ module _
   fit : fits counts words mail ≡ true
   fit = sym (h .answer) ∙ large
 
-  counts-clear : counts′ ≡ zeroed 1024 counts
-  counts-clear = h .counts-are ∙ rw large refl
-
-  words-clear : words′ ≡ zeroed 1056 words
-  words-clear = h .words-are ∙ rw large refl
-
-  mail-clear : mail′ ≡ zeroed 4480 mail
-  mail-clear = h .mail-is ∙ rw large refl
+  clear : (counts′ ≡ zeroed 1024 counts) × (words′ ≡ zeroed 1056 words) × (mail′ ≡ zeroed 4480 mail)
+  clear = (h .counts-are ∙ rw large, h .words-are ∙ rw large, h .mail-is ∙ rw large)
 
   -- the rooms have the fixed sizes, and their fronts are zero
   pub cleared-large : (1024 ≤ length counts′) × (1056 ≤ length words′) × (4480 ≤ length mail′)
-  cleared-large = (rw counts-clear (zeroed-length 1024 counts), rw words-clear (zeroed-length 1056 words), rw mail-clear (zeroed-length 4480 mail))
+  cleared-large = rw (clear .0, clear .1, clear .2) (zeroed-length 1024 counts, zeroed-length 1056 words, zeroed-length 4480 mail)
 
   pub cleared-fronts : Zero (take 1024 counts′) (take 1056 words′) (take 4480 mail′)
-  cleared-fronts =
-      record {
-        counts-zero = rw counts-clear (zeroed-front 1024 counts);
-        words-zero = rw words-clear (zeroed-front 1056 words);
-        mail-zero = rw mail-clear (zeroed-front 4480 mail);
-      }
+  cleared-fronts = zeroed-zero counts words mail clear
 
-  counts-behind : drop 1024 counts′ ≡ drop 1024 counts
-  counts-behind = rw counts-clear (zeroed-behind 1024 counts)
-
-  words-behind : drop 1056 words′ ≡ drop 1056 words
-  words-behind = rw words-clear (zeroed-behind 1056 words)
-
-  mail-behind : drop 4480 mail′ ≡ drop 4480 mail
-  mail-behind = rw mail-clear (zeroed-behind 4480 mail)
+  -- behind them nothing has changed
+  behind : (drop 1024 counts′ ≡ drop 1024 counts) × (drop 1056 words′ ≡ drop 1056 words) × (drop 4480 mail′ ≡ drop 4480 mail)
+  behind = zeroed-kept counts words mail clear
 
   -- the first record is refused
   pub ran-refused : {mode : Mode} {log report : List ℕ} {x q : ℕ} → table.Refused log x q → Ran mode log counts words mail report counts′ words′ mail′ report (Refused x q)
   unfolding ending settled
   ran-refused {log = log} row =
       let says = row-verdict log (row-refused row) in
-      record { answer-is = rw fit (rw says refl); report-is = rw fit (rw says refl); rooms-are = rw fit (rw says (counts-clear, words-clear, mail-clear)) }
+      record { answer-is = rw (fit, says); report-is = rw (fit, says); rooms-are = rw (fit, says) clear }
 
   module _ (mode : Mode) (fore mid aft : List ℕ) (c : length fore ≡ 1024) (w : length mid ≡ 1056) (m : length aft ≡ 4480) where
     rooms-zero : Zero fore mid aft → (fore ++ drop 1024 counts′ ≡ zeroed 1024 counts) × (mid ++ drop 1056 words′ ≡ zeroed 1056 words) × (aft ++ drop 4480 mail′ ≡ zeroed 4480 mail)
-    rooms-zero z = (rw (z .counts-zero) (rw (counts-behind) refl), rw (z .words-zero) (rw (words-behind) refl), rw (z .mail-zero) (rw (mail-behind) refl))
+    rooms-zero z = (rw (z .counts-zero, behind .0), rw (z .words-zero, behind .1), rw (z .mail-zero, behind .2))
 
     rooms-hold : (n : ℕ) (cut : List Event) → Holds n (barn mode cut) fore mid aft
         → RoomsAfter mode (complete n cut) counts words mail (fore ++ drop 1024 counts′) (mid ++ drop 1056 words′) (aft ++ drop 4480 mail′)
     rooms-hold n cut holds = (
-      rw (take-at fore (drop 1024 counts′) 1024 c) (rw (take-at mid (drop 1056 words′) 1056 w) (rw (take-at aft (drop 4480 mail′) 4480 m) holds)),
-      drop-at fore (drop 1024 counts′) 1024 c ∙ counts-behind,
-      drop-at mid (drop 1056 words′) 1056 w ∙ words-behind,
-      drop-at aft (drop 4480 mail′) 4480 m ∙ mail-behind,
+      rw (take-at fore (drop 1024 counts′) 1024 c, take-at mid (drop 1056 words′) 1056 w, take-at aft (drop 4480 mail′) 4480 m) holds,
+      drop-at fore (drop 1024 counts′) 1024 c ∙ behind .0,
+      drop-at mid (drop 1056 words′) 1056 w ∙ behind .1,
+      drop-at aft (drop 4480 mail′) 4480 m ∙ behind .2,
     )
 
     rooms-after : (v : Verdict) (size : ℕ) → FrontAfter mode (settled v size) fore mid aft

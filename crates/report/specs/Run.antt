@@ -30,7 +30,7 @@ placeOf SmallRooms = 0
 placeOf (Refused x p) = p
 placeOf (SmallReport p b) = p
 
--- all zero on a refusal, but for the bytes that a report room lacks
+-- all zero on a refusal, but 13 gives the bytes that the whole report needs
 abbrev pub totalsOf : Answer → Tally
 totalsOf (Accepted p t) = t
 totalsOf SmallRooms = bytesAlone 0
@@ -84,7 +84,7 @@ RoomsAfter mode (complete n cut) counts words mail counts′ words′ mail′ =
     × (drop 1024 counts′ ≡ drop 1024 counts) × (drop 1056 words′ ≡ drop 1056 words) × (drop 4480 mail′ ≡ drop 4480 mail)
 
 -- The promise of a run. From it alone follow the refusal table, demands 2 and 3, and that no other result meets it
--- (crates/demands: Refusals, Arrows, Messages, OneResult).
+-- (proofs/OneResult, crates/demands: Refusals, Arrows, Messages).
 pub record Ran
     (mode : Mode) (log counts words mail report : List ℕ)
     (counts′ words′ mail′ report′ : List ℕ) (r : Answer) : Type 0 where

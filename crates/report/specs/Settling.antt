@@ -1,14 +1,24 @@
--- What the run's inner functions leave in a work room of just the fixed sizes.
+-- What the run's inner functions tell, and what they leave in a work room of just the fixed sizes.
 -- Assumes nothing.
 use mathlib.Core.Path.{_≡_}
 use mathlib.Core.List.{List}
 use Prim.Native.Nat.{ℕ}
 use lib.ListN.{length, replicate}
+use Rattle.order.specs.Order.{Event}
 use Rattle.verdict.specs.Verdict.{verdict}
+use Rattle.verdict.specs.Table.{Reached, Refused}
 use Rattle.room.specs.declared.Mode.{Mode}
 use Rattle.room.specs.Room.{barn, Holds}
+use Rattle.passes.specs.declared.Passed.{Passed}
+use Rattle.passes.specs.declared.Passed.the-variants.{Whole, Halted}
+use Rattle.passes.specs.Report.{tallyOf}
 use Rattle.report.specs.declared.Answer.{Answer}
 use Rattle.report.specs.Run.{Ending, cramped, refusal, overlong, complete, settled, answerOf, reportAfter}
+
+-- what the first pass tells: the totals of an accepted log, or its refusal
+pub data Looked (mode : Mode) (log : List ℕ) (n : ℕ) : Passed → Type 0 where
+  looked-whole : {cut : List Event} → Reached log n (length log) cut → Looked mode log n (Whole (tallyOf mode n cut))
+  looked-halted : {x q : ℕ} → Refused log x q → Looked mode log n (Halted x q)
 
 -- all zero
 pub record Zero (counts words mail : List ℕ) : Type 0 where

@@ -8,9 +8,9 @@ ghost use mathlib.Core.Path.{_≡_};
 ghost use Rattle.log.specs.Record.{openingOf};
 ghost use Rattle.log.specs.declared.Opening.the-variants.{Nodes};
 ghost use Rattle.passes.specs.declared.Passed.the-variants.{Whole};
-ghost use Rattle.passes.specs.Pass.{Looked};
-ghost use Rattle.report.specs.Run.{Ran};
-ghost use Rattle.report.specs.Settling.{Zero, Settles};
+ghost use Rattle.passes.specs.Report.{bytesAlone};
+ghost use Rattle.report.specs.Run.{numberOf, placeOf, totalsOf, Ran};
+ghost use Rattle.report.specs.Settling.{Looked, Zero, Settles};
 
 // The answer of a run.
 pub enum Answer {
@@ -22,6 +22,57 @@ pub enum Answer {
     Refused(u8, usize),
     // 13: the report room is too small; the log's length, and the bytes that are needed.
     SmallReport(usize, usize),
+}
+
+impl Answer {
+    // Its number in 01's table.
+    pub fn number(self) -> u8
+        ensures { λ r. ⌜ r ≡ numberOf self ⌝ }
+    {
+        match self {
+            Answer::Accepted(_, _) => 0,
+            Answer::SmallRooms => 1,
+            Answer::Refused(number, _) => number,
+            Answer::SmallReport(_, _) => 13,
+        }
+    }
+
+    // Its place in the log.
+    pub fn place(self) -> usize
+        ensures { λ r. ⌜ r ≡ placeOf self ⌝ }
+    {
+        match self {
+            Answer::Accepted(end, _) => end,
+            Answer::SmallRooms => 0,
+            Answer::Refused(_, place) => place,
+            Answer::SmallReport(end, _) => end,
+        }
+    }
+
+    // The totals: all zero on a refusal, but for the bytes that the report needs where its room is too small.
+    pub fn totals(self) -> Tally
+        ensures { λ r. ⌜ r ≡ totalsOf self ⌝ }
+    {
+        match self {
+            Answer::Accepted(_, tally) => tally,
+            Answer::SmallRooms => bytes_alone(0),
+            Answer::Refused(_, _) => bytes_alone(0),
+            Answer::SmallReport(_, bytes) => bytes_alone(bytes),
+        }
+    }
+}
+
+// No totals, but for these bytes.
+fn bytes_alone(bytes: usize) -> Tally
+    ensures { λ r. ⌜ r ≡ bytesAlone bytes ⌝ }
+{
+    Tally {
+        events: 0,
+        marks: 0,
+        sends: 0,
+        carried: 0,
+        bytes,
+    }
 }
 
 // Runs a log with full or short messages. The report goes to the front of its room only if the whole log is accepted and the

@@ -73,7 +73,7 @@ unfolding short start brief
 bounded K [] = record { counts = λ i k. omega arith; letters = λ m k c x h. absent-present h }
 bounded K (e ∷ past) =
     let g = bounded K past in
-    bounded-step g (brief (short K past)) e (λ i j k c x h. let o = offer-present _ _ _ h in (o .2, omega (arith, o .0, g .counts i k)))
+    bounded-step g (brief (short K past)) e (λ i j k c x h. let o = offer-present _ _ _ h in (o .2, omega (arith, g .counts i k)))
 
 -- no count is above the number of events
 pub count-bound : (K : Knowledge) (es : List Event) (i k : ℕ) → short K es .state .count i k ≤ length es
@@ -88,4 +88,4 @@ pub entry-most : (mode : Mode) {n : ℕ} {cut : List Event} → Lawful n cut →
 unfolding barn
 entry-most mode {cut = cut} l m k =
     let most = code-bound (short (knowledge mode) cut .state .letter m .entry k) (length cut) (λ c x e. letter-bound (knowledge mode) cut m k c x e .1) in
-    omega (arith, most, l .few-events)
+    omega arith

@@ -9,7 +9,7 @@ use native.Mathlib.Nat.{le-trans}
 use native.Mathlib.Decide.{decLt}
 use native.Mathlib.Omega.{arith}
 use lib.ListN.{length, List·getD-eq-default}
-use Rattle.order.specs.Order.{Event, idle, mark, send, receipt}
+use Rattle.order.specs.Order.{Event, idle, mark, send, receipt, Flying}
 use Rattle.order.specs.Flight.{Message}
 use Rattle.order.proofs.Flight.{message}
 use Rattle.verdict.specs.Lawful.{Lawful}
@@ -42,7 +42,12 @@ slot-below l s h = go (decLt s 128)
     go (yes k) = k
     go (no k) = free-taken (sym (slots-end l s (omega arith)) ∙ h)
 
--- and so is the slot of an event's message
+-- and a message in flight lies in one of them
+pub flying-lies : {n : ℕ} {cut : List Event} → Lawful n cut → {m i j p : ℕ} → Flying m i j cut p
+    → (s : ℕ) × (s < 128) × (slotAt (slots cut) s ≡ some (message m i j p))
+flying-lies l f = let (s, there) = flying-slot f in (s, slot-below l s there, there)
+
+-- the slot of an event's message is one of them too
 pub lawful-slot : {n : ℕ} {e : Event} {cut : List Event} → Lawful n (e ∷ cut) → slotFor cut e < 128
 lawful-slot {e = idle i} l = omega arith
 lawful-slot {e = mark i} l = omega arith

@@ -8,3 +8,4 @@ pub mod BothModes
 pub mod Surveying
 pub mod Sample
 pub mod Zeroed
+pub mod OneResult

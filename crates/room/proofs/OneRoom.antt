@@ -57,7 +57,7 @@ same-mail {m = m} {m′ = m′} r s = ext-getD 0 m m′ (r .mail-size ∙ sym (s
   where
     same : (p : ℕ) → p < length m → getD m p 0 ≡ getD m′ p 0
     same p l =
-        let few : p / 35 < 128 = omega (arith, r .mail-size) in
+        let few : p / 35 < 128 = omega arith in
         let left : p % 35 < 35 = omega arith in
         let there : p ≡ 35 * (p / 35) + p % 35 = omega arith in
         rw there (r .laid (p / 35) (p % 35) few left ∙ sym (s .laid (p / 35) (p % 35) few left))

@@ -3,14 +3,14 @@
 use mathlib.Core.Path.{_≡_, sym}
 use mathlib.Core.Logic.{inl, inr, _≢_}
 use Prim.Native.Nat.{ℕ, zero, suc, _+_, _*_, _/_, _%_, _<_, _≤_}
-use native.Mathlib.Nat.{mul-suc, mul-le-mul, mul-le-mul-left, div-add-mod, mod-lt, div-lt-iff-lt-mul}
+use native.Mathlib.Nat.{mul-le-mul, mul-le-mul-left, div-add-mod, mod-lt, div-lt-iff-lt-mul}
 use native.Mathlib.Decide.{decLt}
 use native.Mathlib.Omega.{arith}
 use Rattle.room.specs.Room.{Outside}
 
 -- of rows of n places, one ends before a later one starts
 pub row-step : (n a b : ℕ) → a < b → n * a + n ≤ n * b
-row-step n a b h = omega (arith, mul-suc n a, mul-le-mul-left n h)
+row-step n a b h = omega (arith, mul-le-mul-left n h)
 
 -- n rows fit into n * n places
 pub row-fits : (n i : ℕ) → i < n → n * i + n ≤ n * n

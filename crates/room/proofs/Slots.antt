@@ -30,7 +30,7 @@ taken (some x ∷ rest) = suc (taken rest)
 
 -- a free slot has no message
 pub free-taken : {A : Type 0} {x : Message} → _≡_ {A = Slot} none (some x) → A
-free-taken h = absurd (let z : _≡_ {A = ℕ} 0 1 = cc in omega arith)
+free-taken h = absurd (false≢true (cc))
 
 -- a slot has message number m only if its message has that number
 pub not-borne : (m : ℕ) (o : Slot) → ((x : Message) → o ≡ some x → x .number ≢ m) → bears m o ≡ false
@@ -163,7 +163,7 @@ unfolding slots
 slot-once [] h k q = free-taken h
 slot-once (idle i ∷ past) h k q = slot-once past h k q
 slot-once (mark i ∷ past) h k q = slot-once past h k q
-slot-once (send i j m ∷ past) {s} {t} {x} {y} h k q =
+slot-once (send i j m ∷ past) {s} {t} h k q =
     let S = slots past in
     let z = message m i j (length past) in
     filled z (vacate m S) s

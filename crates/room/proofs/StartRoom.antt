@@ -14,18 +14,19 @@ use Rattle.room.specs.declared.Mode.{Mode}
 use Rattle.room.specs.Slots.{slots}
 use Rattle.room.specs.Room.{barn, element, Holds}
 
--- a list of this size that is zero everywhere, and read as zero behind its end
+-- zeros are read as zero, and so is what lies behind their end
+pub zeros-read : (size p : ℕ) → getD {A = ℕ} (replicate size 0) p 0 ≡ 0
+zeros-read zero p = refl
+zeros-read (suc size) zero = refl
+zeros-read (suc size) (suc p) = zeros-read size p
+
+-- a list of this size that is zero everywhere
 record Zeros (size : ℕ) (xs : List ℕ) : Type 0 where
   sized : length xs ≡ size
   zeros : (p : ℕ) → getD xs p 0 ≡ 0
 
 replicate-zeros : (size : ℕ) → Zeros size (replicate size 0)
-replicate-zeros size = record { sized = length-replicate size 0; zeros = reads size }
-  where
-    reads : (size p : ℕ) → getD {A = ℕ} (replicate size 0) p 0 ≡ 0
-    reads zero p = refl
-    reads (suc size) zero = refl
-    reads (suc size) (suc p) = reads size p
+replicate-zeros size = record { sized = length-replicate size 0; zeros = zeros-read size }
 
 zeros-hold : (mode : Mode) {n : ℕ} {c w m : List ℕ} → Zeros 1024 c → Zeros 1056 w → Zeros 4480 m → Holds n (barn mode []) c w m
 unfolding barn short start slots element

@@ -17,14 +17,13 @@ use lib.Seq.{take-all}
 use borrow.Author.Tests.{eq-eqb, eqb-true}
 use Rattle.order.specs.Order.{Event, Flying}
 use Rattle.order.specs.Flight.{Message, inFlight}
-use Rattle.order.proofs.Flight.{message}
 use Rattle.room.specs.declared.mail.Seen.{Seen}
 use Rattle.room.specs.declared.mail.Found.the-variants.{In, Nowhere}
 use Rattle.room.specs.Slots.{Slot, slotAt, bears, lowest, slotOf, slots}
 use Rattle.room.specs.Room.{Barn, barn, element, Letters}
 use Rattle.room.specs.Finding.{Bears, Finds, finds, misses, looked, surveyed, Mailed}
-use Rattle.room.proofs.Slots.{taken, free-taken, lowest-free, lowest-taken, slot-flies, flying-slot, slot-of-flying, taken-flying}
-use Rattle.room.proofs.LawfulSlots.{slots-few, slot-below}
+use Rattle.room.proofs.Slots.{taken, free-taken, lowest-free, lowest-taken, slot-flies, slot-of-flying, taken-flying}
+use Rattle.room.proofs.LawfulSlots.{slots-few, flying-lies}
 
 -- ---- the walk over the mail
 
@@ -132,10 +131,6 @@ module _ {n : ℕ} {cut : List Event} {mail : List ℕ} (mailed : Mailed n cut m
   unfolding barn
   shown s h = lies (mailed .letters) s h
 
-  -- a message in flight lies in one of them
-  flying-shown : {m a b q : ℕ} → Flying m a b cut q → (s : ℕ) × (s < 128) × (slotAt (slots cut) s ≡ some (message m a b q))
-  flying-shown f = let r = flying-slot f in (r .0, slot-below (mailed .lawful) (r .0) (r .1), r .1)
-
   -- ---- found by the walk
 
   module _ (number : ℕ) where
@@ -198,7 +193,7 @@ module _ {n : ℕ} {cut : List Event} {mail : List ℕ} (mailed : Mailed n cut m
   -- and one that is not is in no flight
   pub survey-new : (number : ℕ) → surveyed number mail 128 .repeated ≡ false → (a b q : ℕ) → ¬ Flying number a b cut q
   survey-new number e a b q f =
-      let (s, l, at) = flying-shown f in
+      let (s, l, at) = flying-lies (mailed .lawful) f in
       let same : bears number (slotAt (slots cut) s) ≡ true = rw at (eq-eqb number number refl) in
       true≢false (sym (repeats number 128 (le-refl 128) l same) ∙ e)
 
@@ -223,6 +218,6 @@ module _ {n : ℕ} {cut : List Event} {mail : List ℕ} (mailed : Mailed n cut m
   -- and a number that is not found is in no flight
   pub find-none : {number : ℕ} → Finds mail number Nowhere → (a b q : ℕ) → ¬ Flying number a b cut q
   find-none (misses none-has) a b q f =
-      let (s, l, at) = flying-shown f in
+      let (s, l, at) = flying-lies (mailed .lawful) f in
       let is = rw at at (shown s l) in
       none-has s l (omega (arith, is .0), is .2)

@@ -9,7 +9,7 @@ use Rattle.machine.specs.Short.{Knowledge, brief, short, Columns, learnColumns,
 use Rattle.room.specs.declared.Mode.{Mode}
 use Rattle.room.specs.declared.Mode.the-variants.{Full, Short}
 
--- whether messages leave out what the receiver is known to have
+-- whether messages may leave out a count that the receiver is known to have
 abbrev pub sparing : Mode → Bool
 sparing Full = false
 sparing Short = true

@@ -40,7 +40,7 @@ unfoldable pub vacate : ℕ → List Slot → List Slot
 vacate m [] = []
 vacate m (slot ∷ rest) = cond (bears m slot) none slot ∷ vacate m rest
 
--- the slot of message number m
+-- the slot of message number m; the list's end if none has it
 unfoldable pub slotOf : ℕ → List Slot → ℕ
 slotOf m [] = 0
 slotOf m (slot ∷ rest) = cond (bears m slot) 0 (suc (slotOf m rest))

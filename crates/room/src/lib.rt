@@ -3,7 +3,7 @@ pub mod mail;
 
 ghost use mathlib.Core.Path.{_≡_};
 ghost use mathlib.Core.List.{_++_};
-ghost use Prim.Native.Nat.{_≤_};
+ghost use Prim.Native.Nat.{_≤_, min};
 ghost use lib.ListN.{length, drop, replicate};
 ghost use Rattle.room.specs.Room.{Cleared};
 
@@ -11,7 +11,7 @@ ghost use Rattle.room.specs.Room.{Cleared};
 pub enum Mode {
     // All counts and flags.
     Full,
-    // What the receiver is not known to have.
+    // Each count above zero with its flag, unless the flag is set and the receiver is known to have the count.
     Short,
 }
 
@@ -59,4 +59,11 @@ fn zeros32(room: &mut [u32], size: usize)
         room[k] = 0;
         k += 1;
     }
+}
+
+// The place, or the end of a room of this size if the place is behind it.
+pub fn within(place: usize, size: usize) -> usize
+    ensures { λ r. ⌜ r ≡ min place size ⌝ }
+{
+    if place < size { place } else { size }
 }

@@ -6,9 +6,8 @@ ghost use mathlib.Core.Path.{_≡_};
 ghost use Prim.Native.Nat.{ℕ, _≤_, _<_};
 ghost use lib.ListN.{length, getD};
 ghost use Rattle.order.specs.Order.{send};
-ghost use Rattle.steps.specs.Steps.{held, Sent, Follows};
+ghost use Rattle.steps.specs.Steps.{held, Posted, Sent, Follows};
 ghost use Rattle.cells.specs.Cells.{saidOf};
-ghost use Rattle.room.specs.Modes.{sparedBits};
 ghost use Rattle.machine.specs.Answer.{entries};
 
 // A message from one node to another, into a free slot. How many entries it carries comes back.
@@ -26,8 +25,8 @@ pub fn send(
     requires { ⌜ (nodes ≤ 32) × (from .0 < nodes) × (to .0 < nodes) × (slot < 128) ⌝ }
     requires { ⌜ (length (now counts) ≡ 1024) × (length (now words) ≡ 1056) × (length (now mail) ≡ 4480) ⌝ }
     requires { ⌜ ((p : ℕ) → getD (now counts) p 0 ≤ 4096) ⌝ }
-    ensures { λ _. ⌜ Sent nodes (from .0) (to .0) (number .0) slot (sparedBits mode (to .0))
-        (now (counts .entry)) (now (words .entry)) (now (mail .entry)) (now (mail .exit)) ⌝ }
+    ensures { λ r. ⌜ Sent mode nodes (from .0) (to .0) (number .0) slot
+        (now (counts .entry)) (now (words .entry)) (now (mail .entry)) (now (mail .exit)) r ⌝ }
     ensures { λ r. ⌜ Follows mode nodes (send (from .0) (to .0) (number .0)) slot
         (now (counts .entry)) (now (words .entry)) (now (mail .entry))
         (now (counts .entry)) (now (words .entry)) (now (mail .exit)) r ⌝ }
@@ -44,7 +43,7 @@ pub fn send(
     }
 }
 
-// Writes a letter into a slot. The bits of `spared` are those of nodes that need not be told what they brought.
+// Writes a letter into a slot. The nodes whose bits `spared` has need not be told a count that they brought, if its flag is set.
 fn post(
     from: Node,
     to: Node,
@@ -59,7 +58,7 @@ fn post(
     requires { ⌜ (nodes ≤ 32) × (from .0 < nodes) × (to .0 < nodes) × (slot < 128) ⌝ }
     requires { ⌜ (length (now counts) ≡ 1024) × (length (now words) ≡ 1056) × (length (now mail) ≡ 4480) ⌝ }
     requires { ⌜ ((p : ℕ) → getD (now counts) p 0 ≤ 4096) ⌝ }
-    ensures { λ _. ⌜ Sent nodes (from .0) (to .0) (number .0) slot spared
+    ensures { λ _. ⌜ Posted nodes (from .0) (to .0) (number .0) slot spared
         (now (counts .entry)) (now (words .entry)) (now (mail .entry)) (now (mail .exit)) ⌝ }
     ensures { λ r. ⌜ r ≡ entries nodes
         (λ k. saidOf spared (held nodes (now (counts .entry)) (now (words .entry)) (from .0) k)) ⌝ }

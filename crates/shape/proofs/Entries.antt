@@ -9,10 +9,10 @@ use native.Mathlib.Omega.{arith}
 use lib.Dec.{leb}
 use lib.ListN.{length}
 use borrow.Author.Tests.{le-leb, lt-leb, leb-true, lt-ltb, le-ltb, ltb-true}
-use Rattle.reading.specs.Reading.{wholeAt}
+use Rattle.reading.specs.Reading.{nodeAt, numberHere, wholeAt}
 use Rattle.reading.proofs.Standing.{both, whole-fits}
 use Rattle.shape.specs.declared.Mark.{Mark}
-use Rattle.shape.specs.Shape.{inRange, nodeAt, numberHere, entryFits, causesFit, markHere, markFits, headFits}
+use Rattle.shape.specs.Shape.{inRange, entryFits, causesFit, markHere, markFits, headFits}
 
 -- ---- a number
 

@@ -9,9 +9,9 @@ use native.Mathlib.Decide.{decLt}
 use native.Mathlib.Omega.{arith}
 use lib.ListN.{length}
 use borrow.Author.Tests.{eqb-true}
-use Rattle.reading.specs.Reading.{stampHere, stampPlace, stampAt, causePlace, causeCount}
+use Rattle.reading.specs.Reading.{nodeAt, numberHere, stampHere, stampPlace, stampAt, causePlace, causeCount}
 use Rattle.reading.proofs.Standing.{both, count-missing, stamp-inside, stamp-takes}
-use Rattle.shape.specs.Shape.{nodeAt, numberHere, stampFits, causesFit, stampKept, causesKept, groupFits, pastGroup}
+use Rattle.shape.specs.Shape.{stampFits, causesFit, stampKept, causesKept, groupFits, pastGroup}
 use Rattle.shape.proofs.Entries.{range-within, Head, head-there, causes-there}
 
 module _ (report : List ℕ) where

@@ -2,7 +2,7 @@
 -- stands there: the tests are taken one by one, in the order of the definition.
 -- Assumes nothing.
 use mathlib.Core.Path.{_≡_, refl, sym, _∙_, ap}
-use mathlib.Core.Bool.{Bool, true, false, cond, _&&_}
+use mathlib.Core.Bool.{Bool, true, false, cond, _&&_, false≢true}
 use mathlib.Core.List.{List}
 use Prim.Native.Nat.{ℕ, _+_, _*_, _≤_, _<_}
 use native.Mathlib.Omega.{arith}
@@ -21,11 +21,11 @@ use Rattle.shape.proofs.FittingGroup.{group-inside}
 -- the answer of a part tells that its rules are kept, and where it ends
 reach-past : (b : Bool) (q r : ℕ) → cond b (Past q) Broken ≡ Past r → (b ≡ true) × (q ≡ r)
 reach-past true q r e = (refl, cc)
-reach-past false q r e = absurd (let z : _≡_ {A = ℕ} 0 1 = cc in omega arith)
+reach-past false q r e = absurd (false≢true (cc))
 
 -- or that they are not
 reach-broken : (b : Bool) (q : ℕ) → cond b (Past q) Broken ≡ Broken → b ≡ false
-reach-broken true q e = absurd (let z : _≡_ {A = ℕ} 0 1 = cc in omega arith)
+reach-broken true q e = absurd (false≢true (cc))
 reach-broken false q e = refl
 
 module _ (report : List ℕ) (p : ℕ) where
@@ -96,16 +96,16 @@ module _ (report : List ℕ) (p : ℕ) where
     where
       go : (short fits : Bool) → leb (length report) p ≡ short → groupFits report p ≡ fits → length report ≤ p
       go true fits e f = leb-true _ _ e
-      go false true e f = absurd (let z : _≡_ {A = ℕ} 0 1 = cc (seen-is false true e f) in omega arith)
-      go false false e f = absurd (let z : _≡_ {A = ℕ} 0 1 = cc (seen-is false false e f) in omega arith)
+      go false true e f = absurd (false≢true (cc (seen-is false true e f)))
+      go false false e f = absurd (false≢true (cc (seen-is false false e f)))
 
   -- no group that fits
   pub look-bad : groupSeen report p ≡ Bad → (p < length report) × (groupFits report p ≡ false)
   look-bad told = go _ _ refl refl
     where
       go : (short fits : Bool) → leb (length report) p ≡ short → groupFits report p ≡ fits → (p < length report) × (groupFits report p ≡ false)
-      go true fits e f = absurd (let z : _≡_ {A = ℕ} 0 1 = cc (seen-is true fits e f) in omega arith)
-      go false true e f = absurd (let z : _≡_ {A = ℕ} 0 1 = cc (seen-is false true e f) in omega arith)
+      go true fits e f = absurd (false≢true (cc (seen-is true fits e f)))
+      go false true e f = absurd (false≢true (cc (seen-is false true e f)))
       go false false e f = (leb-false _ _ e, f)
 
   -- a group that fits, with this mark and this end
@@ -113,6 +113,6 @@ module _ (report : List ℕ) (p : ℕ) where
   look-good m q told = go _ _ refl refl
     where
       go : (short fits : Bool) → leb (length report) p ≡ short → groupFits report p ≡ fits → (groupFits report p ≡ true) × (m ≡ markHere report p) × (q ≡ pastGroup report p)
-      go true fits e f = absurd (let z : _≡_ {A = ℕ} 0 1 = cc (seen-is true fits e f) in omega arith)
+      go true fits e f = absurd (false≢true (cc (seen-is true fits e f)))
       go false true e f = (f, cc (seen-is false true e f), cc (seen-is false true e f))
-      go false false e f = absurd (let z : _≡_ {A = ℕ} 0 1 = cc (seen-is false false e f) in omega arith)
+      go false false e f = absurd (false≢true (cc (seen-is false false e f)))

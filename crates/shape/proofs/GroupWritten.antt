@@ -8,7 +8,7 @@ use Prim.Native.Nat.{ℕ, zero, suc, _+_, _/_, _%_, _≤_, _<_}
 use native.Mathlib.Omega.{arith}
 use lib.ListN.{length, getD, length-append}
 use borrow.Author.Tests.{eq-eqb, ne-eqb}
-use Rattle.machine.specs.Answer.{Answer, Ascending, ascending-cons}
+use Rattle.machine.specs.Answer.{Answer, Ascending, ascending-nil, ascending-cons}
 use Rattle.groups.specs.Groups.{fourBytes, causeRecords, groupOf}
 use Rattle.reading.specs.Reading.{stampHere, stampPlace, stampAt}
 use Rattle.reading.proofs.StampRead.{whole-written, node-written, number-written}
@@ -18,10 +18,6 @@ use Rattle.shape.specs.Fits.{Fits, markOf}
 use Rattle.shape.proofs.Entries.{range-fits, entry-number, mark-low, head-mark}
 
 -- ---- the direct predecessors
-
--- the node of the first is below those of the others
-ascending-parts : {k c : ℕ} {rest : List (ℕ × ℕ)} → Ascending ((k, c) ∷ rest) → ((l d : ℕ) → List·Memᴰ (l, d) rest → k < l) × Ascending rest
-ascending-parts (ascending-cons first others) = (first, others)
 
 -- a record of four bytes, as it is written, keeps the rules if its node and its number do
 entry-written : (xs ys : List ℕ) (kind k c low : ℕ) → low ≤ k → k < 32 → 0 < c → c ≤ 4096
@@ -36,12 +32,11 @@ causes-written : (l : List (ℕ × ℕ)) (xs tail : List ℕ) (low : ℕ) → As
     → ((k c : ℕ) → List·Memᴰ (k, c) l → (low ≤ k) × (k < 32) × (0 < c) × (c ≤ 4096))
     → causesFit (xs ++ (causeRecords l ++ tail)) (length xs) low (length l) ≡ true
 unfolding causesFit causeRecords
-causes-written [] xs tail low rising within = refl
-causes-written (x ∷ rest) xs tail low rising within =
+causes-written [] xs tail low ascending-nil within = refl
+causes-written (x ∷ rest) xs tail low (ascending-cons first others) within =
     let four = fourBytes 0x23 (x .0) (x .1) in
     let behind = causeRecords rest ++ tail in
     let (from, below, some, most) = within (x .0) (x .1) (List·Memᴰ·head refl) in
-    let (first, others) = ascending-parts rising in
     let later = causes-written rest (xs ++ four) tail (suc (x .0)) others (λ k c m. let (f, b, s, t) = within k c (List·Memᴰ·tail m) in (first k c m, b, s, t)) in
     rw (entry-written xs behind 0x23 (x .0) (x .1) low from below some most, node-written xs behind 0x23 (x .0) (x .1))
     (rw (append-assoc xs four behind, length-append xs four) at later)

@@ -12,9 +12,9 @@ use native.Mathlib.Omega.{arith}
 use lib.Dec.{eqb}
 use lib.ListN.{length, getD, List·getD-eq-default}
 use borrow.Author.Tests.{eq-eqb, ne-eqb}
-use Rattle.reading.specs.Reading.{numberAt, wholeAt, stampHere, countAt, stampPlace, stampAt}
+use Rattle.reading.specs.Reading.{nodeAt, numberHere, numberAt, wholeAt, stampHere, countAt, stampPlace, stampAt}
 use Rattle.reading.proofs.Standing.{whole-kind, whole-begins, stamp-none, stamp-node, count-there, count-missing, past-there, past-missing}
-use Rattle.shape.specs.Shape.{inRange, nodeAt, numberHere, entryFits, stampFits, stampEnds}
+use Rattle.shape.specs.Shape.{inRange, entryFits, stampFits, stampEnds}
 use Rattle.shape.proofs.Entries.{range-fits, entry-number, entry-there}
 
 module _ (report : List ℕ) (p : ℕ) where
@@ -120,11 +120,11 @@ module _ {report : List ℕ} {p node : ℕ} where
         let (next, fit, count) = there report p k place reached (record-own report place (x .whole)) in
         record {
           inside = x .inside;
-          few = omega (arith, x .below);
+          few = omega arith;
           reached = rw (add-one k) next;
           fitting = rw (add-one k, fit, fits) (range-fits _ (x .some) (x .most));
           own-passed = λ l. go l counts count (decLt node low) (decLt node k);
-          own-ahead = λ l. other (omega arith) ∙ h .own-ahead (omega (arith, x .ascends));
+          own-ahead = λ l. other (omega arith) ∙ h .own-ahead (omega arith);
         }
       where
         go : node < nodeAt report place + 1 → ((j : ℕ) → low ≤ j → j < nodeAt report place → stampAt report p j ≡ 0)

@@ -5,7 +5,7 @@ use mathlib.Core.List.{List}
 use Prim.Native.Nat.{ℕ, zero, suc, _+_, _*_}
 use lib.Dec.{eqb, leb, ltb}
 use lib.ListN.{length, getD}
-use Rattle.reading.specs.Reading.{numberAt, wholeAt, stampHere, stampPlace, stampAt, causePlace, causeCount}
+use Rattle.reading.specs.Reading.{nodeAt, numberHere, wholeAt, stampHere, stampPlace, stampAt, causePlace, causeCount}
 use Rattle.shape.specs.declared.Mark.{Mark}
 use Rattle.shape.specs.declared.Group.{Group}
 use Rattle.shape.specs.declared.Group.the-variants.{Good, Bad, End}
@@ -13,13 +13,6 @@ use Rattle.shape.specs.declared.Group.the-variants.{Good, Bad, End}
 -- numbers of marks, and counts that are shown, go from 1 to 4,096
 unfoldable pub inRange : ℕ → Bool
 inRange c = leb 1 c && leb c 4096
-
--- the node of the record at place p, and its number
-abbrev pub nodeAt : List ℕ → ℕ → ℕ
-nodeAt report p = getD report (p + 1) 0
-
-abbrev pub numberHere : List ℕ → ℕ → ℕ
-numberHere report p = numberAt report (p + 2)
 
 -- a whole record of this kind, of a node from `low` on and below 32, with a number in range
 unfoldable pub entryFits : ℕ → List ℕ → ℕ → ℕ → Bool

@@ -136,7 +136,7 @@ fn causes(report: &[u8], at: usize, count: usize) -> Reach
     Reach::Past(place)
 }
 
-// Whether a record of this kind stands at a place, of a node from `low` on, with a number in range.
+// Whether a whole record of this kind stands at a place, of a node from `low` on and below 32, with a number in range.
 fn entry_fits(kind: u8, report: &[u8], at: usize, low: usize) -> bool
     requires { ⌜ at ≤ length (now report) ⌝ }
     ensures { λ r. ⌜ r ≡ entryFits kind (now (report .entry)) at low ⌝ }

@@ -1,4 +1,4 @@
--- What the events of a cut are counted to carry adds up to the machines' total.
+-- What the events of a cut are counted to carry adds up to the machines' total: by the kinds of events, since only a send carries.
 -- Assumes nothing.
 use mathlib.Core.Path.{_≡_, refl, sym}
 use mathlib.Core.List.{List, _∷_}

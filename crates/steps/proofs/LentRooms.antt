@@ -15,7 +15,7 @@ use Rattle.bits.specs.Bits.{bit}
 use Rattle.cells.specs.declared.Cell.{Cell}
 use Rattle.cells.specs.Cells.{codeOf, entryOf, saidOf, merged, cellAt, Packed, Joined}
 use Rattle.room.specs.Room.{Outside}
-use Rattle.steps.specs.Steps.{held, Sent, Received}
+use Rattle.steps.specs.Steps.{held, Posted, Received}
 use Rattle.room.proofs.Places.{row-within}
 use Rattle.steps.proofs.Parts.{part-at, part-length, back-in, back-out}
 use Rattle.cells.proofs.Entries.{entries-same}
@@ -112,8 +112,8 @@ module _ (n i : ℕ) (counts words : List ℕ) (lc : length counts ≡ 1024) (lw
     module _ (j m spared : ℕ) (letter : List ℕ) (carried : ℕ)
         (ll : length letter ≡ length (midOf (35 * slot + 3) km (headed mail (35 * slot) (i + 1) j m)))
         (P : Packed spared Row RowColumns (getD words i 0) (length Row) letter carried) where
-      letter-sent : Sent n i j m slot spared counts words mail (putMid (35 * slot + 3) km (headed mail (35 * slot) (i + 1) j m) letter)
-      letter-sent = record {
+      letter-written : Posted n i j m slot spared counts words mail (putMid (35 * slot + 3) km (headed mail (35 * slot) (i + 1) j m) letter)
+      letter-written = record {
         from = whole-first n slot few hs mail lm (i + 1) j m km em letter ll ∙ add-one i;
         to = whole-second n slot few hs mail lm (i + 1) j m km em letter ll;
         number = whole-third n slot few hs mail lm (i + 1) j m km em letter ll;
@@ -129,9 +129,9 @@ module _ (n i : ℕ) (counts words : List ℕ) (lc : length counts ≡ 1024) (lw
           ∙ entries-same n _ _ (λ k h. ap (saidOf spared) (lent-cell k h))
 
       -- the slot has the letter, and so many entries went along
-      pub letter-posted : Sent n i j m slot spared counts words mail (putMid (35 * slot + 3) km (headed mail (35 * slot) (i + 1) j m) letter)
+      pub letter-posted : Posted n i j m slot spared counts words mail (putMid (35 * slot + 3) km (headed mail (35 * slot) (i + 1) j m) letter)
           × (carried ≡ entries n (λ k. saidOf spared (held n counts words i k)))
-      letter-posted = (letter-sent, letter-counted)
+      letter-posted = (letter-written, letter-counted)
 
     -- ---- a letter taken
 

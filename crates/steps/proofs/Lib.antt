@@ -6,5 +6,5 @@ pub mod MarkFollows
 pub mod LettersFollow
 pub mod SendFollows
 pub mod ReceiptFollows
-pub mod FollowOnce
+pub mod OneResult
 pub mod Carried

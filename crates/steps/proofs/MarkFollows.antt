@@ -52,12 +52,12 @@ module _ {n i : ℕ} {b : Barn} {counts words counts′ words′ : List ℕ} (fe
   marked-flags : getD words′ i 0 ≡ 2 ^ i
   marked-flags =
       rw (marks .words-are)
-      (getD-set-other (set words i (2 ^ i)) (32 + n * i + i) i 0 0 (λ e. omega arith) ∙ getD-set-same words i _ 0 (omega (arith, rows .words-size)))
+      (getD-set-other (set words i (2 ^ i)) (32 + n * i + i) i 0 0 (λ e. omega arith) ∙ getD-set-same words i _ 0 (omega arith))
 
   marked-column : columnAt n words′ i i ≡ 0
   marked-column =
       rw (marks .words-are)
-      (getD-set-same (set words i (2 ^ i)) (32 + n * i + i) 0 0 (omega (arith, own-place, rows .words-size, length-set words i (2 ^ i))))
+      (getD-set-same (set words i (2 ^ i)) (32 + n * i + i) 0 0 (omega (arith, own-place, length-set words i (2 ^ i))))
 
   -- and the row is then the machine's
   marked-shows : Shows n i (put i (suc (b .state .count i i)) (b .state .count i)) (put i true (λ k. false)) (put i (λ j. false) (b .known i))
@@ -67,7 +67,7 @@ module _ {n i : ℕ} {b : Barn} {counts words counts′ words′ : List ℕ} (fe
         counted =
             λ k h. put-cases (λ c. countAt n counts′ i k ≡ c) i _ (b .state .count i) k
             (λ e. rw (marks .counts-are, ← e)
-            (getD-set-same counts (n * i + i) _ 0 (omega (arith, own-place, rows .counts-size)) ∙ ap suc (rows .counted i i inside inside)))
+            (getD-set-same counts (n * i + i) _ 0 (omega (arith, own-place)) ∙ ap suc (rows .counted i i inside inside)))
             (λ d. rw (marks .counts-are) (getD-set-other counts (n * i + i) (n * i + k) _ 0 (λ e. d (omega arith)) ∙ rows .counted i k inside h));
         flagged =
             λ k. rw (marked-flags, bit-one i k)

@@ -1,4 +1,5 @@
--- A part of a list that was lent: to be read, and come back with other elements.
+-- What a part of a list that was lent has, and what the list has once the part is back with other elements: by where a place lies,
+-- before the part, in it or behind it.
 -- Assumes nothing.
 use mathlib.Core.Path.{_≡_, sym, ap, _∙_, subst}
 use mathlib.Core.Logic.{⊎-elim}

@@ -63,19 +63,19 @@ module _ {mode : Mode} {n : ℕ} {cut : List Event} {e : Event} {slot : ℕ} {co
       go : Dec (p < n * n) → getD counts p 0 ≤ 4096
       go (yes h) =
           let row = row-of n p h in
-          rw (row .4) (omega (arith, ready-count (row .0) (row .1) (row .2) (row .3), ready .lawful .few-events))
+          rw (row .4) (omega (arith, ready-count (row .0) (row .1) (row .2) (row .3)))
       go (no h) = omega (arith, ready .holds .rows .counts-rest p (omega arith))
 
 -- a node that marks can count once more
 pub ready-mark : {mode : Mode} {n : ℕ} {cut : List Event} {i slot : ℕ} {counts words mail : List ℕ}
     → Ready mode n cut (mark i) slot counts words mail → countAt n counts i i < 4096
-ready-mark {i = i} ready = let h = ready-node ready in omega (arith, ready-count ready i i h h, ready .lawful .few-events)
+ready-mark {i = i} ready = let h = ready-node ready in omega (arith, ready-count ready i i h h)
 
 -- the message that a receipt takes lies in its slot
 pub ready-letter : {mode : Mode} {n : ℕ} {cut : List Event} {i m slot : ℕ} {counts words mail : List ℕ}
     → Ready mode n cut (receipt i m) slot counts words mail
     → (a p : ℕ) × Flying m a i cut p × (a < n) × (slotAt (slots cut) slot ≡ some (message m a i p))
-ready-letter {cut = cut} {m = m} {slot = slot} ready =
+ready-letter {cut = cut} {slot = slot} ready =
     let h = lawful-allowed (ready .lawful) .1 in
     let f = h .2 in
     let lies = flying-slot f in
@@ -93,4 +93,4 @@ ready-from {slot = slot} ready =
 -- which is the number of a node and one more
 pub ready-sender : {mode : Mode} {n : ℕ} {cut : List Event} {i m slot : ℕ} {counts words mail : List ℕ}
     → Ready mode n cut (receipt i m) slot counts words mail → (1 ≤ getD mail (35 * slot) 0) × (getD mail (35 * slot) 0 ≤ 32)
-ready-sender ready = omega (arith, ready-from ready, ready-letter ready .3, ready .lawful .few-nodes)
+ready-sender ready = omega (arith, ready-from ready, ready-letter ready .3)

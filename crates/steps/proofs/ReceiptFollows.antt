@@ -46,14 +46,13 @@ module _ {mode : Mode} {n : ℕ} {cut : List Event} {i m slot : ℕ} {counts wor
   received-sender =
       let l = ready-letter ready in
       let from = truthful (knowledge mode) cut m (l .0) i (l .1) (l .2) .0 in
-      omega (arith, ready-from ready, from, l .3)
+      omega (arith, ready-from ready)
 
   -- its entry for k, as the slot has it
   received-entry : (k : ℕ) → k < n → entryOf (getD mail (35 * slot + 3 + k) 0) ≡ letter .entry k
   unfolding barn element
   received-entry k h =
       let place : 35 * slot + suc (suc (suc k)) ≡ 35 * slot + 3 + k = omega arith in
-      let few = ready-nodes ready .1 in
       let laid = ready .holds .letters .laid slot (suc (suc (suc k))) (ready-slot ready) (omega arith) in
       rw (rw (place, ready-letter ready .4, lt-ltb k n h) at laid) (code-decoded _ (λ c x e. letter-bound (knowledge mode) cut m k c x e .0))
 
@@ -67,7 +66,7 @@ module _ {mode : Mode} {n : ℕ} {cut : List Event} {i m slot : ℕ} {counts wor
       → Shows n i (λ k. takeCount (state .count i k) (letter .entry k)) (λ k. takeFlag (state .count i k) (state .flag i k) (letter .entry k))
       (λ k. note (letter .from) (state .count i k) (letter .entry k) (barn mode cut .known i k)) counts′ words′
   unfolding merged
-  received-shows {counts′} {words′} got =
+  received-shows {words′ = words′} got =
       let rows = ready .holds .rows in
       let inside = ready-node ready in
       record {

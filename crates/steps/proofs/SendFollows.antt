@@ -5,7 +5,7 @@ use mathlib.Core.Logic.{_≢_}
 use mathlib.Core.Bool.{_&&_}
 use mathlib.Core.Option.{some}
 use mathlib.Core.List.{List, _∷_}
-use Prim.Native.Nat.{ℕ, zero, suc, _+_, _*_, _^_, _<_}
+use Prim.Native.Nat.{ℕ, zero, suc, _+_, _*_, _<_}
 use native.Mathlib.Nat.{add-zero}
 use native.Mathlib.Omega.{arith}
 use lib.Dec.{ltb}
@@ -22,11 +22,11 @@ use Rattle.bits.specs.Bits.{bit, meets}
 use Rattle.bits.proofs.Laws.{meets-none, meets-one}
 use Rattle.room.specs.declared.Mode.{Mode}
 use Rattle.room.specs.declared.Mode.the-variants.{Full, Short}
-use Rattle.room.specs.Modes.{sparing, knowledge, sparedBits}
+use Rattle.room.specs.Modes.{sparing, knowledge, says, sparedBits}
 use Rattle.room.specs.Slots.{slotAt, slots}
 use Rattle.cells.specs.Cells.{codeOf, saidOf}
 use Rattle.room.specs.Room.{barn, columnAt, element, Holds}
-use Rattle.steps.specs.Steps.{held, Sent, Ready, Follows}
+use Rattle.steps.specs.Steps.{held, Posted, sentEntries, Sent, Ready, Follows}
 use Rattle.room.proofs.Slots.{fill-at, slots-sent, no-bearer}
 use Rattle.verdict.proofs.Lawfully.{lawful-allowed}
 use Rattle.cells.proofs.Entries.{entries-same}
@@ -67,7 +67,7 @@ module _ {mode : Mode} {n : ℕ} {cut : List Event} {i j m slot : ℕ} {counts w
   slot-sent t = rw (slots-sent allowed, ready .place) (fill-at posted (slots cut) t)
 
   -- the letter's slot
-  sent-new : {mail′ : List ℕ} → Sent n i j m slot (sparedBits mode j) counts words mail mail′
+  sent-new : {mail′ : List ℕ} → Posted n i j m slot (sparedBits mode j) counts words mail mail′
       → (x : ℕ) → x < 3 + n → getD mail′ (35 * slot + x) 0 ≡ element n letters (slotAt (slots (send i j m ∷ cut)) slot) x
   unfolding barn short step element
   sent-new {mail′} sent x h = rw (slot-sent slot, put-same slot (some posted) (slotAt (slots cut))) (go x h)
@@ -94,7 +94,7 @@ module _ {mode : Mode} {n : ℕ} {cut : List Event} {i j m slot : ℕ} {counts w
       (element-same n _ _ (slotAt (slots cut) t) (λ y e. put-other m _ _ (y .number) (number-new t y e)) x)
 
   -- the slices hold the machine's state with the letter
-  sent-holds : {mail′ : List ℕ} → Sent n i j m slot (sparedBits mode j) counts words mail mail′ → length mail′ ≡ length mail
+  sent-holds : {mail′ : List ℕ} → Posted n i j m slot (sparedBits mode j) counts words mail mail′ → length mail′ ≡ length mail
       → Holds n (barn mode (send i j m ∷ cut)) counts words mail′
   unfolding barn short step learnColumns
   sent-holds sent size =
@@ -114,14 +114,14 @@ module _ {mode : Mode} {n : ℕ} {cut : List Event} {i j m slot : ℕ} {counts w
         letters = letters-follow (ready-nodes ready .1) (ready-slot ready) (ready .holds .letters) size (sent .mail-else) (sent-new sent) sent-other;
       }
 
--- a full send, which is counted to carry an entry for each node
-pub sent-follows-full : (n i j m slot : ℕ) (counts words mail mail′ : List ℕ) (carried : ℕ) → Sent n i j m slot 0 counts words mail mail′
-    → length mail′ ≡ length mail → carried ≡ n → Follows Full n (send i j m) slot counts words mail counts words mail′ carried
-sent-follows-full n i j m slot counts words mail mail′ carried sent size e cut ready = (sent-holds ready sent size, e ∙ sym (full-says n cut i j))
+-- as many entries are counted as the machine counts
+sent-carried : (mode : Mode) {n : ℕ} {cut : List Event} {i j m slot : ℕ} {counts words mail : List ℕ}
+    → Ready mode n cut (send i j m) slot counts words mail → sentEntries mode n i j counts words ≡ entries n (says mode cut i j)
+sent-carried Full {n} {cut} {i} {j} ready = sym (full-says n cut i j)
+sent-carried Short {n} {cut} {i} {j} ready = entries-same n _ _ (said-same ready) ∙ sym (short-says n cut i j)
 
--- a short send, which carries what is said
-pub sent-follows-short : (n i j m slot : ℕ) (counts words mail mail′ : List ℕ) (carried : ℕ) → Sent n i j m slot (2 ^ j) counts words mail mail′
-    → length mail′ ≡ length mail → carried ≡ entries n (λ k. saidOf (2 ^ j) (held n counts words i k))
-    → Follows Short n (send i j m) slot counts words mail counts words mail′ carried
-sent-follows-short n i j m slot counts words mail mail′ carried sent size e cut ready =
-    (sent-holds ready sent size, e ∙ entries-same n _ _ (said-same ready) ∙ sym (short-says n cut i j))
+-- a send follows the machine, in either mode
+pub sent-follows : {mode : Mode} {n i j m slot : ℕ} {counts words mail mail′ : List ℕ} {carried : ℕ}
+    → Sent mode n i j m slot counts words mail mail′ carried → length mail′ ≡ length mail
+    → Follows mode n (send i j m) slot counts words mail counts words mail′ carried
+sent-follows {mode} sent size cut ready = (sent-holds ready (sent .posted) size, sent .counted ∙ sent-carried mode ready)

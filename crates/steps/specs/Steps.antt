@@ -9,8 +9,9 @@ use Rattle.order.specs.Order.{Event, idle, mark, send, receipt}
 use Rattle.verdict.specs.Lawful.{Lawful}
 use Rattle.machine.specs.Answer.{entries}
 use Rattle.room.specs.declared.Mode.{Mode}
+use Rattle.room.specs.declared.Mode.the-variants.{Full, Short}
 use Rattle.cells.specs.declared.Cell.{Cell}
-use Rattle.room.specs.Modes.{says}
+use Rattle.room.specs.Modes.{says, sparedBits}
 use Rattle.room.specs.Slots.{slotFor}
 use Rattle.cells.specs.Cells.{codeOf, entryOf, saidOf, merged}
 use Rattle.room.specs.Room.{barn, countAt, flagAt, columnAt, Holds, Outside}
@@ -25,12 +26,22 @@ pub record Marked (n i : ℕ) (counts words counts′ words′ : List ℕ) : Typ
   pub words-are : words′ ≡ set (set words i (2 ^ i)) (32 + n * i + i) 0
 
 -- Node i's letter to j, numbered m, stands in the slot, with what is said of each of i's cells. No other slot changes.
-pub record Sent (n i j m slot spared : ℕ) (counts words mail mail′ : List ℕ) : Type 0 where
+pub record Posted (n i j m slot spared : ℕ) (counts words mail mail′ : List ℕ) : Type 0 where
   pub from : getD mail′ (35 * slot) 0 ≡ suc i
   pub to : getD mail′ (35 * slot + 1) 0 ≡ j
   pub number : getD mail′ (35 * slot + 2) 0 ≡ m
   pub written : (k : ℕ) → k < n → getD mail′ (35 * slot + 3 + k) 0 ≡ codeOf (saidOf spared (held n counts words i k))
   pub mail-else : (p : ℕ) → Outside (35 * slot) (3 + n) p → getD mail′ p 0 ≡ getD mail p 0
+
+-- how many entries node i's message to j is counted to carry: n if it is full, else as many as are said
+abbrev pub sentEntries : Mode → ℕ → ℕ → ℕ → List ℕ → List ℕ → ℕ
+sentEntries Full n i j counts words = n
+sentEntries Short n i j counts words = entries n (λ k. saidOf (2 ^ j) (held n counts words i k))
+
+-- a send in either mode: its letter is posted, and so many entries went along
+pub record Sent (mode : Mode) (n i j m slot : ℕ) (counts words mail mail′ : List ℕ) (carried : ℕ) : Type 0 where
+  pub posted : Posted n i j m slot (sparedBits mode j) counts words mail mail′
+  pub counted : carried ≡ sentEntries mode n i j counts words
 
 -- Node i takes the letter of a slot: each of its cells is merged with the letter's entry, by the bit of the sender that the
 -- slot names, and the letter is then zero. No other node's row, flags or columns change, and no other slot.

@@ -13,7 +13,7 @@ use Rattle.reading.specs.Reading.{answerAt}
 use Rattle.reading.proofs.GroupRead.{amid, group-node, group-stamp, group-nearest, groups-amid, groups-clear}
 use Rattle.shape.specs.Fits.{Fits}
 use Rattle.shape.proofs.GroupWritten.{group-past, group-fits}
-use Rattle.text.specs.Text.{stampText, stampPart, lineOf, answerLine, writtenLine, lineAt}
+use Rattle.text.specs.Text.{stampText, stampPart, lineOf, writtenLine, lineAt}
 use Rattle.text.specs.declared.Line.the-variants.{Written}
 use Rattle.text.proofs.Answered.{line-there}
 
@@ -26,7 +26,7 @@ stamp-agrees (suc n) f g h = rw (stamp-agrees n f g (λ k l. h k (omega arith)),
 module _ (n : ℕ) (few : n ≤ 32) {a : Answer} (fits : Fits a) where
   module _ (before behind : List ℕ) (next : ¬ (getD behind 0 0 ≡ 0x22)) where
     -- the group that stands behind `before` has the answer's line
-    mark-of-group : answerLine n (answerAt (amid before a behind) (length before)) ≡ answerLine n a
+    mark-of-group : lineOf n (answerAt (amid before a behind) (length before)) ≡ lineOf n a
     unfolding answerAt lineOf stampPart
     mark-of-group =
         let counts = group-stamp a before behind next in
@@ -35,7 +35,7 @@ module _ (n : ℕ) (few : n ≤ 32) {a : Answer} (fits : Fits a) where
     -- so that line is laid over the front of the room, and the place past the group is answered
     pub line-of-group : (room : List ℕ)
         → lineAt n (amid before a behind) (length before) room
-        ≡ (Written (length (answerLine n a)) (length before + length (groupOf 32 a)), laid 0 (answerLine n a) room)
+        ≡ (Written (length (lineOf n a)) (length before + length (groupOf 32 a)), laid 0 (lineOf n a) room)
     unfolding writtenLine
     line-of-group room =
         line-there n _ _ room few (group-fits fits before behind next)
@@ -45,7 +45,7 @@ module _ (n : ℕ) (few : n ≤ 32) {a : Answer} (fits : Fits a) where
   -- is answered.
   pub line-of-answer : (done rest : List Answer) (room : List ℕ)
       → lineAt n (groupsOf 32 (done ++ (a ∷ rest))) (length (groupsOf 32 done)) room
-      ≡ (Written (length (answerLine n a)) (length (groupsOf 32 (done ++ (a ∷ [])))), laid 0 (answerLine n a) room)
+      ≡ (Written (length (lineOf n a)) (length (groupsOf 32 (done ++ (a ∷ [])))), laid 0 (lineOf n a) room)
   line-of-answer done rest room =
       rw (groups-amid done rest a, groups-more 32 done a, length-append (groupsOf 32 done) (groupOf 32 a))
       (line-of-group (groupsOf 32 done) (groupsOf 32 rest) (groups-clear rest) room)

@@ -21,12 +21,12 @@ many = refl
 
 -- ---- log A
 
--- its report: a group on each line
-reportA : List ℕ
+-- its report, a group on each line: 0.1, 1.1 from 0.1, and 2.1 from 1.1 alone
+abbrev pub reportA : List ℕ
 reportA =
-    0x21 ∷ 0x00 ∷ 0x01 ∷ 0x00 ∷ 0x00 ∷ 0x22 ∷ 0x00 ∷ 0x01 ∷ 0x00
-    ∷ 0x21 ∷ 0x01 ∷ 0x01 ∷ 0x00 ∷ 0x01 ∷ 0x22 ∷ 0x00 ∷ 0x01 ∷ 0x00 ∷ 0x22 ∷ 0x01 ∷ 0x01 ∷ 0x00 ∷ 0x23 ∷ 0x00 ∷ 0x01 ∷ 0x00
-    ∷ 0x21 ∷ 0x02 ∷ 0x01 ∷ 0x00 ∷ 0x01 ∷ 0x22 ∷ 0x00 ∷ 0x01 ∷ 0x00 ∷ 0x22 ∷ 0x01 ∷ 0x01 ∷ 0x00 ∷ 0x22 ∷ 0x02 ∷ 0x01 ∷ 0x00 ∷ 0x23 ∷ 0x01 ∷ 0x01 ∷ 0x00 ∷ []
+    0x21 ∷ 0 ∷ 1 ∷ 0 ∷ 0 ∷ 0x22 ∷ 0 ∷ 1 ∷ 0
+    ∷ 0x21 ∷ 1 ∷ 1 ∷ 0 ∷ 1 ∷ 0x22 ∷ 0 ∷ 1 ∷ 0 ∷ 0x22 ∷ 1 ∷ 1 ∷ 0 ∷ 0x23 ∷ 0 ∷ 1 ∷ 0
+    ∷ 0x21 ∷ 2 ∷ 1 ∷ 0 ∷ 1 ∷ 0x22 ∷ 0 ∷ 1 ∷ 0 ∷ 0x22 ∷ 1 ∷ 1 ∷ 0 ∷ 0x22 ∷ 2 ∷ 1 ∷ 0 ∷ 0x23 ∷ 1 ∷ 1 ∷ 0 ∷ []
 
 -- `mark 0.1 stamp 1 0 0 from -`
 firstText : List ℕ
@@ -36,7 +36,7 @@ firstText =
     ∷ 32 ∷ 102 ∷ 114 ∷ 111 ∷ 109 ∷ 32 ∷ 45 ∷ 10 ∷ []
 
 first-line : lineAt 3 reportA 0 [] ≡ (Written 28 9, firstText)
-unfolding reportA firstText lineAt writtenLine groupFits headFits markFits markHere stampKept causesKept causesFit stampFits stampEnds entryFits inRange pastGroup answerAt wholeAt stampHere countAt pastCount stampPlace stampAt causesAt lineOf markPart stampPart fromPart nameText stampText causesText nearestText decimal digits
+unfolding firstText lineAt writtenLine groupFits headFits markFits markHere stampKept causesKept causesFit stampFits stampEnds entryFits inRange pastGroup answerAt wholeAt stampHere countAt pastCount stampPlace stampAt causesAt lineOf markPart stampPart fromPart nameText stampText causesText nearestText decimal digits
 first-line = refl
 
 -- `mark 1.1 stamp 1 1 0 from 0.1`
@@ -47,7 +47,7 @@ secondText =
     ∷ 32 ∷ 102 ∷ 114 ∷ 111 ∷ 109 ∷ 32 ∷ 48 ∷ 46 ∷ 49 ∷ 10 ∷ []
 
 second-line : lineAt 3 reportA 9 [] ≡ (Written 30 26, secondText)
-unfolding reportA secondText lineAt writtenLine groupFits headFits markFits markHere stampKept causesKept causesFit stampFits stampEnds entryFits inRange pastGroup answerAt wholeAt stampHere countAt pastCount stampPlace stampAt causesAt lineOf markPart stampPart fromPart nameText stampText causesText nearestText decimal digits
+unfolding secondText lineAt writtenLine groupFits headFits markFits markHere stampKept causesKept causesFit stampFits stampEnds entryFits inRange pastGroup answerAt wholeAt stampHere countAt pastCount stampPlace stampAt causesAt lineOf markPart stampPart fromPart nameText stampText causesText nearestText decimal digits
 second-line = refl
 
 -- `mark 2.1 stamp 1 1 1 from 1.1`
@@ -58,11 +58,11 @@ thirdText =
     ∷ 32 ∷ 102 ∷ 114 ∷ 111 ∷ 109 ∷ 32 ∷ 49 ∷ 46 ∷ 49 ∷ 10 ∷ []
 
 third-line : lineAt 3 reportA 26 [] ≡ (Written 30 47, thirdText)
-unfolding reportA thirdText lineAt writtenLine groupFits headFits markFits markHere stampKept causesKept causesFit stampFits stampEnds entryFits inRange pastGroup answerAt wholeAt stampHere countAt pastCount stampPlace stampAt causesAt lineOf markPart stampPart fromPart nameText stampText causesText nearestText decimal digits
+unfolding thirdText lineAt writtenLine groupFits headFits markFits markHere stampKept causesKept causesFit stampFits stampEnds entryFits inRange pastGroup answerAt wholeAt stampHere countAt pastCount stampPlace stampAt causesAt lineOf markPart stampPart fromPart nameText stampText causesText nearestText decimal digits
 third-line = refl
 
 report-ends : lineAt 3 reportA 47 [] ≡ (End, [])
-unfolding reportA lineAt
+unfolding lineAt
 report-ends = refl
 
 -- ---- no line

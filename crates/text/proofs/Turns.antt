@@ -6,8 +6,9 @@ use Prim.Native.Nat.{ℕ, zero, suc, _+_, _-_, _<_, _≤_}
 use native.Mathlib.Numerals.{add-one}
 use native.Mathlib.Omega.{arith}
 use lib.ListN.{length, getD}
-use Rattle.words.specs.Words.{decimal, Laid}
-use Rattle.words.proofs.Laying.{none-laid, and-then}
+use Rattle.groups.specs.Groups.{Laid}
+use Rattle.words.specs.Words.{decimal}
+use Rattle.groups.proofs.Laying.{none-laid, and-then}
 use Rattle.reading.specs.Reading.{numberAt, countAt, stampPlace, stampAt, causesAt}
 use Rattle.text.specs.Text.{nameText, stampText, causesText, nearestText}
 
@@ -56,7 +57,7 @@ owing-less part rest′ e o g =
 
 -- nothing is left
 pub owing-none : {at write : ℕ} {whole room₀ rest room : List ℕ} → rest ≡ [] → Owing at whole room₀ write rest room → Laid at whole room₀ room write
-owing-none {rest = rest} e o = rw (← o .whole-is, e, append-nil (o .done)) (o .so-far)
+owing-none e o = rw (← o .whole-is, e, append-nil (o .done)) (o .so-far)
 
 module _ (report : List ℕ) (place : ℕ) where
   pub causes-empty : (left : ℕ) → left ≤ 0 → causesText (causesAt report place left) ≡ []

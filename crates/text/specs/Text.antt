@@ -1,5 +1,4 @@
--- The program's text: a line for each mark of a report (01, "Logs to try"). A word stands as the
--- codes of its letters.
+-- The program's text: a line for each mark of a report (01, "Logs to try"). A word stands as the codes of its letters.
 -- Assumes nothing.
 use mathlib.Core.Bool.{cond, _&&_}
 use mathlib.Core.List.{List, [], _∷_, _++_}
@@ -47,13 +46,9 @@ stampPart n stamp = (32 ∷ 115 ∷ 116 ∷ 97 ∷ 109 ∷ 112 ∷ []) ++ stampT
 unfoldable pub fromPart : List (ℕ × ℕ) → List ℕ
 fromPart nearest = (32 ∷ 102 ∷ 114 ∷ 111 ∷ 109 ∷ []) ++ nearestText nearest ++ (10 ∷ [])
 
--- `mark 2.1 stamp 1 1 1 from 1.1`
-unfoldable pub lineOf : ℕ → ℕ → ℕ → (ℕ → ℕ) → List (ℕ × ℕ) → List ℕ
-lineOf n node number stamp nearest = markPart node number ++ stampPart n stamp ++ fromPart nearest
-
--- the line of what is answered of a mark
-abbrev pub answerLine : ℕ → Answer → List ℕ
-answerLine n a = lineOf n (a .node) (a .stamp (a .node)) (a .stamp) (a .nearest)
+-- the line of what is answered of a mark, in a barn of n nodes: `mark 2.1 stamp 1 1 1 from 1.1`
+unfoldable pub lineOf : ℕ → Answer → List ℕ
+lineOf n a = markPart (a .node) (a .stamp (a .node)) ++ stampPart n (a .stamp) ++ fromPart (a .nearest)
 
 -- ---- from the report to the lines
 
@@ -66,4 +61,4 @@ writtenLine line past room = (Written (length line) past, laid 0 line room)
 unfoldable pub lineAt : ℕ → List ℕ → ℕ → List ℕ → Line × List ℕ
 lineAt n report p room =
     cond (leb (length report) p) (End, room)
-    (cond (leb n 32 && groupFits report p) (writtenLine (answerLine n (answerAt report p)) (pastGroup report p) room) (Bad, room))
+    (cond (leb n 32 && groupFits report p) (writtenLine (lineOf n (answerAt report p)) (pastGroup report p) room) (Bad, room))

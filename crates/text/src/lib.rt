@@ -4,12 +4,13 @@ ghost use mathlib.Core.Path.{_≡_};
 ghost use mathlib.Core.Bool.{true};
 ghost use mathlib.Core.List.{_∷_};
 ghost use Prim.Native.Nat.{ℕ, _+_, _*_, _≤_, _<_};
-ghost use lib.ListN.{length, getD};
-ghost use Rattle.words.specs.Words.{decimal, Laid};
-ghost use Rattle.reading.specs.Reading.{numberAt, stampAt, causesAt, causePlace, causeCount, answerAt};
+ghost use lib.ListN.{length};
+ghost use Rattle.groups.specs.Groups.{Laid};
+ghost use Rattle.words.specs.Words.{decimal};
+ghost use Rattle.reading.specs.Reading.{nodeAt, numberHere, stampAt, causesAt, causePlace, causeCount, answerAt};
 ghost use Rattle.shape.specs.Shape.{groupFits};
 ghost use Rattle.text.specs.declared.Line.the-variants.{Written};
-ghost use Rattle.text.specs.Text.{nameText, stampText, causesText, nearestText, markPart, stampPart, fromPart, answerLine, lineAt};
+ghost use Rattle.text.specs.Text.{nameText, stampText, causesText, nearestText, markPart, stampPart, fromPart, lineOf, lineAt};
 
 // The answer to writing the line of a mark.
 pub enum Line {
@@ -22,53 +23,53 @@ pub enum Line {
 }
 
 // Lays the line of the mark whose group stands at a place of the report over the front of the room.
-pub fn mark_line(report: &[u8], at: usize, nodes: usize, room: &mut [u8; 4096]) -> Line
-    ensures { λ r. ⌜ (r, now (room .exit)) ≡ lineAt nodes (now (report .entry)) at (now (room .entry)) ⌝ }
+pub fn mark_line(report: &[u8], place: usize, nodes: usize, room: &mut [u8; 4096]) -> Line
+    ensures { λ r. ⌜ (r, now (room .exit)) ≡ lineAt nodes (now (report .entry)) place (now (room .entry)) ⌝ }
     ensures { λ r. ⌜ ((size past : ℕ) → r ≡ Written size past → 4096 ≡ length (now (room .exit))) ⌝ }
 {
-    match view::group(report, at) {
+    match view::group(report, place) {
         Group::End => Line::End,
         Group::Bad => Line::Bad,
-        Group::Good(mark, past) => {
+        Group::Good(_, past) => {
             if 32 < nodes {
                 return Line::Bad;
             }
-            let count = report[at + 4] as usize;
+            let count = report[place + 4] as usize;
             let causes = past - 4 * count;
-            let size = lay_mark(report, at, nodes, causes, count, room);
+            let size = lay_mark(report, place, nodes, causes, count, room);
             Line::Written(size, past)
         }
     }
 }
 
-// Lays the line of a mark over the front of the room.
+// Lays the line of the mark whose group stands at a place, with so many predecessors from the place `causes` on.
 fn lay_mark(
     report: &[u8],
-    mark: usize,
+    place: usize,
     nodes: usize,
     causes: usize,
     count: usize,
     room: &mut [u8],
 ) -> usize
-    requires { ⌜ (groupFits (now report) mark ≡ true) × (nodes ≤ 32) × (length (now room) ≡ 4096) ⌝ }
-    requires { ⌜ (causes ≡ causePlace (now report) mark) × (count ≡ causeCount (now report) mark) × (count < 256) ⌝ }
-    ensures { λ r. ⌜ Laid 0 (answerLine nodes (answerAt (now (report .entry)) mark))
+    requires { ⌜ (groupFits (now report) place ≡ true) × (nodes ≤ 32) × (length (now room) ≡ 4096) ⌝ }
+    requires { ⌜ (causes ≡ causePlace (now report) place) × (count ≡ causeCount (now report) place) × (count < 256) ⌝ }
+    ensures { λ r. ⌜ Laid 0 (lineOf nodes (answerAt (now (report .entry)) place))
         (now (room .entry)) (now (room .exit)) r ⌝ }
 {
-    let named = heading(report, mark, room);
-    let stamped = stamp(report, mark + 5, nodes, named, room);
+    let named = heading(report, place, room);
+    let stamped = stamp(report, place + 5, nodes, named, room);
     ending(report, causes, count, stamped, room)
 }
 
 // Lays the word and the name that begin the line of a mark.
-fn heading(report: &[u8], mark: usize, room: &mut [u8]) -> usize
-    requires { ⌜ (mark + 4 ≤ length (now report)) × (16 ≤ length (now room)) ⌝ }
-    ensures { λ r. ⌜ Laid 0 (markPart (getD (now (report .entry)) (mark + 1) 0) (numberAt (now (report .entry)) (mark + 2)))
+fn heading(report: &[u8], place: usize, room: &mut [u8]) -> usize
+    requires { ⌜ (place + 4 ≤ length (now report)) × (16 ≤ length (now room)) ⌝ }
+    ensures { λ r. ⌜ Laid 0 (markPart (nodeAt (now (report .entry)) place) (numberHere (now (report .entry)) place))
         (now (room .entry)) (now (room .exit)) r ⌝ }
     ensures { λ r. ⌜ r ≤ 16 ⌝ }
 {
     let at = words::word(b"mark ", 0, room);
-    name(report, mark, at, room)
+    name(report, place, at, room)
 }
 
 // Lays the word and the counts of a stamp.
@@ -96,7 +97,7 @@ fn ending(report: &[u8], place: usize, count: usize, at: usize, room: &mut [u8])
 // Lays the mark that a record names: node, dot, number.
 fn name(report: &[u8], place: usize, at: usize, room: &mut [u8]) -> usize
     requires { ⌜ (place + 4 ≤ length (now report)) × (at + 11 ≤ length (now room)) ⌝ }
-    ensures { λ r. ⌜ Laid at (nameText (getD (now (report .entry)) (place + 1) 0) (numberAt (now (report .entry)) (place + 2)))
+    ensures { λ r. ⌜ Laid at (nameText (nodeAt (now (report .entry)) place) (numberHere (now (report .entry)) place))
         (now (room .entry)) (now (room .exit)) r ⌝ }
     ensures { λ r. ⌜ r ≤ at + 11 ⌝ }
 {
@@ -128,8 +129,9 @@ fn counts(report: &[u8], place: usize, nodes: usize, at: usize, room: &mut [u8])
     let mut write = at;
     let mut k: usize = 0;
     while k < nodes {
-        write = count(reading::count_at(report, read, k), write, room);
-        read = reading::past_count(report, read, k);
+        let found = reading::count_at(report, read, k);
+        write = count(found.count, write, room);
+        read = found.past;
         k += 1;
     }
     write
@@ -138,7 +140,7 @@ fn counts(report: &[u8], place: usize, nodes: usize, at: usize, room: &mut [u8])
 // Lays a space and a direct predecessor.
 fn cause(report: &[u8], place: usize, at: usize, room: &mut [u8]) -> usize
     requires { ⌜ (place + 4 ≤ length (now report)) × (at + 12 ≤ length (now room)) ⌝ }
-    ensures { λ r. ⌜ Laid at (32 ∷ nameText (getD (now (report .entry)) (place + 1) 0) (numberAt (now (report .entry)) (place + 2)))
+    ensures { λ r. ⌜ Laid at (32 ∷ nameText (nodeAt (now (report .entry)) place) (numberHere (now (report .entry)) place))
         (now (room .entry)) (now (room .exit)) r ⌝ }
     ensures { λ r. ⌜ r ≤ at + 12 ⌝ }
 {

@@ -1,7 +1,6 @@
 // The words and numbers of a line.
 use crate::left::State;
 use libc::STDOUT_FILENO;
-use passes::Tally;
 use report::Answer;
 use room::Mode;
 
@@ -27,34 +26,14 @@ pub fn answer(mode: Mode, answer: Answer) {
         Mode::Full => text(b", full:"),
         Mode::Short => text(b", short:"),
     }
-    match answer {
-        Answer::Accepted(place, tally) => numbers(0, place, tally),
-        Answer::SmallRooms => numbers(1, 0, bytes_alone(0)),
-        Answer::Refused(number, place) => numbers(number as usize, place, bytes_alone(0)),
-        Answer::SmallReport(place, bytes) => numbers(13, place, bytes_alone(bytes)),
-    }
-}
-
-// The totals of a refusal.
-fn bytes_alone(bytes: usize) -> Tally {
-    Tally {
-        events: 0,
-        marks: 0,
-        sends: 0,
-        carried: 0,
-        bytes,
-    }
-}
-
-// The seven numbers of an answer.
-fn numbers(refusal: usize, place: usize, tally: Tally) {
-    number(refusal);
-    number(place);
-    number(tally.events);
-    number(tally.marks);
-    number(tally.sends);
-    number(tally.carried);
-    number(tally.bytes);
+    let totals = answer.totals();
+    number(answer.number() as usize);
+    number(answer.place());
+    number(totals.events);
+    number(totals.marks);
+    number(totals.sends);
+    number(totals.carried);
+    number(totals.bytes);
 }
 
 // What a part of a room holds.

@@ -2,6 +2,7 @@
 -- induction on what was reached, event by event.
 -- Assumes nothing.
 use mathlib.Core.Path.{_≡_}
+use mathlib.Core.Bool.{false≢true}
 use mathlib.Core.List.{List, [], _∷_, _++_}
 use Prim.Native.Nat.{ℕ, _+_, _*_, _≤_}
 use native.Mathlib.Omega.{arith}
@@ -11,7 +12,7 @@ use Rattle.order.specs.Flight.{inFlight}
 use Rattle.log.specs.declared.Record.{Record}
 use Rattle.log.specs.declared.Record.the-variants.{Idle, Mark, Send, Receipt}
 use Rattle.verdict.specs.Verdict.{accepted, verdict}
-use Rattle.verdict.specs.Table.{Reached, reached-first, reached-next}
+use Rattle.verdict.specs.Table.{Reached, reached-first, reached-next, Row, row-accepted}
 use Rattle.verdict.specs.Lawful.{Lawful}
 use Rattle.log.proofs.Stands.{sizeOf, read-size}
 use Rattle.log.proofs.FirstRecord.{nodes-there}
@@ -29,10 +30,13 @@ reached-lawful {log} (reached-first e) =
   where
     none : (later past : List Event) → [] ≡ later ++ past → length (inFlight past) ≤ 128
     none [] past q = rw (← q) (omega arith)
-    none (x ∷ later) past q = absurd (let z : _≡_ {A = ℕ} 0 1 = cc in omega arith)
+    none (x ∷ later) past q = absurd (false≢true (cc))
 reached-lawful (reached-next {r = r} before e h) = lawful-next (reached-lawful before) r h
 
 -- the events of an accepted log are lawful
+pub row-lawful : {log : List ℕ} {n : ℕ} {cut : List Event} → Row log (accepted n cut) → Lawful n cut
+row-lawful (row-accepted here) = reached-lawful here
+
 pub accepted-lawful : (log : List ℕ) (n : ℕ) (cut : List Event) → verdict log ≡ accepted n cut → Lawful n cut
 accepted-lawful log n cut e = reached-lawful (verdict-accepted log .0 e)
 

@@ -50,15 +50,12 @@ reached-ends : {log : List ℕ} {n p : ℕ} {cut : List Event} → Reached log n
 reached-ends (reached-first e) = ends-first e
 reached-ends (reached-next before e h) = ends-next (reached-ends before) e
 
-reached-before : {log : List ℕ} {n p : ℕ} {e : Event} {past : List Event} → Reached log n p (e ∷ past) → (q : ℕ) × (q ≤ p) × Reached log n q past
-reached-before {log} (reached-next {p = p} before e h) = let f = read-forward log p e in (p, omega arith, before)
-
 pub reached-cut : {log : List ℕ} {n p : ℕ} (later : List Event) {past : List Event} → Reached log n p (later ++ past) → (q : ℕ) × (q ≤ p) × Reached log n q past
 reached-cut [] here = (_, le-refl _, here)
-reached-cut (x ∷ later) here =
-    let a = reached-before here in
-    let b = reached-cut later (a .2) in
-    (b .0, omega (arith, a .1, b .1), b .2)
+reached-cut {log} (x ∷ later) (reached-next {p = p} before e h) =
+    let f = read-forward log p e in
+    let (q, l, here) = reached-cut later before in
+    (q, omega arith, here)
 
 -- ---- every place after a whole record
 

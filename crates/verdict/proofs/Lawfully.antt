@@ -13,7 +13,7 @@ use Rattle.order.proofs.Flight.{without-length, without-none, listed-flying}
 use Rattle.log.specs.declared.Record.{Record}
 use Rattle.log.specs.declared.Record.the-variants.{Idle, Mark, Send, Receipt}
 use Rattle.verdict.specs.Verdict.{eventOf}
-use Rattle.verdict.specs.Table.{Room, Passes}
+use Rattle.verdict.specs.Table.{Space, Passes}
 use Rattle.verdict.specs.Lawful.{Lawful}
 
 -- ---- one event less
@@ -23,7 +23,7 @@ sound-parts (sound-cons ok before) = (ok, before)
 
 -- the cut before the latest event is lawful
 pub lawful-past : {n : ℕ} {e : Event} {cut : List Event} → Lawful n (e ∷ cut) → Lawful n cut
-lawful-past {n} {e} l =
+lawful-past {e = e} l =
     record {
       some-node = l .some-node;
       few-nodes = l .few-nodes;
@@ -53,16 +53,16 @@ passes-lawful (Receipt j m) l = (l .few-events, lawful-allowed l, tt)
 -- ---- one event more
 
 -- an event that finds room keeps the messages in flight to 128
-room-flying : (cut : List Event) (e : Event) → Room cut e → length (inFlight cut) ≤ 128 → length (inFlight (e ∷ cut)) ≤ 128
+space-flying : (cut : List Event) (e : Event) → Space cut e → length (inFlight cut) ≤ 128 → length (inFlight (e ∷ cut)) ≤ 128
 unfolding inFlight
-room-flying cut (idle i) room few = few
-room-flying cut (mark i) room few = few
-room-flying cut (send i j m) room few = omega (arith, without-length m (inFlight cut))
-room-flying cut (receipt j m) room few = le-trans (without-length m (inFlight cut)) few
+space-flying cut (idle i) room few = few
+space-flying cut (mark i) room few = few
+space-flying cut (send i j m) room few = omega (arith, without-length m (inFlight cut))
+space-flying cut (receipt j m) room few = le-trans (without-length m (inFlight cut)) few
 
 -- a lawful cut with the event of a record that passes is lawful
 pub lawful-next : {n : ℕ} {cut : List Event} → Lawful n cut → (r : Record) → Passes n cut r → Lawful n (eventOf r ∷ cut)
-lawful-next {n} {cut} l r h =
+lawful-next {cut = cut} l r h =
     record {
       some-node = l .some-node;
       few-nodes = l .few-nodes;
@@ -72,5 +72,5 @@ lawful-next {n} {cut} l r h =
     }
   where
     few : (later past : List Event) → eventOf r ∷ cut ≡ later ++ past → length (inFlight past) ≤ 128
-    few [] past q = rw (← q) (room-flying cut (eventOf r) (h .2) (l .few-flying [] cut refl))
+    few [] past q = rw (← q) (space-flying cut (eventOf r) (h .2) (l .few-flying [] cut refl))
     few (e ∷ later) past q = l .few-flying later past (cc)

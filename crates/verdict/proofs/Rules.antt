@@ -3,7 +3,7 @@
 -- Assumes nothing.
 use mathlib.Core.Path.{_≡_, refl, sym, _∙_, ap}
 use mathlib.Core.Logic.{_≢_, ⊎-elim}
-use mathlib.Core.Bool.{Bool, true, false, not, _&&_, _||_, true≢false, false≢true, not-eq-not}
+use mathlib.Core.Bool.{Bool, true, false, not, _&&_, _||_, true≢false, false≢true, not-eq-not, and-eq-true-iff}
 use mathlib.Core.Option.{Option, none, some}
 use mathlib.Core.List.{List, [], _∷_, List·Memᴰ, List·Memᴰ·head, List·Memᴰ·tail, List·Memᴰ·not-nil, List·Memᴰ·cases-cons}
 use Prim.Native.Nat.{ℕ, _+_, _<_, _≤_}
@@ -19,7 +19,7 @@ use Rattle.log.specs.declared.MessageNumber.{MessageNumber}
 use Rattle.log.specs.declared.Record.{Record}
 use Rattle.log.specs.declared.Record.the-variants.{Idle, Mark, Send, Receipt}
 use Rattle.verdict.specs.Verdict.{eventOf, any, filled, crowded, flies, fliesElsewhere, Rule, rule, rules, firstBroken}
-use Rattle.verdict.specs.Table.{Breaks, breaks-12, breaks-6, breaks-6-to, breaks-7, breaks-8, breaks-9, breaks-10, breaks-11, Room, Passes}
+use Rattle.verdict.specs.Table.{Breaks, breaks-12, breaks-6, breaks-6-to, breaks-7, breaks-8, breaks-9, breaks-10, breaks-11, Space, Passes}
 
 -- ---- tests over the messages in flight
 
@@ -58,16 +58,12 @@ module _ (m : ℕ) (cut : List Event) where
   flies-no : ((a b q : ℕ) → ¬ Flying m a b cut q) → flies m cut ≡ false
   flies-no h = not-eq-not .0 (λ e. let r = flies-true e in h (r .0) (r .1) (r .2) (r .3))
 
-both-true : (x y : Bool) → (x && y) ≡ true → (x ≡ true) × (y ≡ true)
-both-true true y e = (refl, e)
-both-true false y e = absurd (false≢true e)
-
 module _ (m j : ℕ) (cut : List Event) where
   elsewhere-true : fliesElsewhere m j cut ≡ true → (a b q : ℕ) × Flying m a b cut q × (b ≢ j)
   elsewhere-true e =
       let r = any-true (λ x. eqb (x .number) m && not (eqb (x .to) j)) (inFlight cut) e in
       let x = r .0 in
-      let t = both-true (eqb (x .number) m) _ (r .2) in
+      let t = and-eq-true-iff (eqb (x .number) m) _ .0 (r .2) in
       (x .from, x .to, x .sent, rw (eqb-true (x .number) m (t .0)) at (listed-flying cut x (r .1)), eqb-false (x .to) j (not-true _ (t .1)))
 
   elsewhere-false : fliesElsewhere m j cut ≡ false → {a b q : ℕ} → Flying m a b cut q → b ≡ j
@@ -90,7 +86,7 @@ pub data Judged (n : ℕ) (cut : List Event) (p : ℕ) (r : Record) : Option Rul
 
 module _ (n : ℕ) (cut : List Event) (p : ℕ) where
   -- an event that neither sends nor receives
-  judge-quiet : (r : Record) → (nodeOf (eventOf r) < n → Allowed n cut (eventOf r) × Room cut (eventOf r))
+  judge-quiet : (r : Record) → (nodeOf (eventOf r) < n → Allowed n cut (eventOf r) × Space cut (eventOf r))
       → (b₁ b₂ : Bool) → filled cut ≡ b₁ → leb n (nodeOf (eventOf r)) ≡ b₂
       → Judged n cut p r (firstBroken (rule 12 p b₁ ∷ rule 6 (p + 1) b₂ ∷ []))
   judge-quiet r allowed true b₂ e₁ e₂ = judged-breaks (breaks-12 (leb-true _ _ e₁))

@@ -3,6 +3,7 @@
 -- Assumes nothing.
 use mathlib.Core.Path.{_≡_, refl, sym, _∙_, subst}
 use mathlib.Core.Logic.{_↔_}
+use mathlib.Core.Bool.{false≢true}
 use mathlib.Core.List.{List, [], _∷_}
 use mathlib.Core.Option.{Option}
 use Prim.Native.Nat.{ℕ, zero, suc, _+_, _≤_}
@@ -27,7 +28,7 @@ use Rattle.verdict.proofs.Walk.{reached-walk}
 
 -- what is refused is not accepted
 pub not-accepted : {A : Type 0} {x q n : ℕ} {cut : List Event} → refused x q ≡ accepted n cut → A
-not-accepted e = absurd (let z : _≡_ {A = ℕ} 0 1 = cc in omega arith)
+not-accepted e = absurd (false≢true (cc))
 
 -- what was reached lies within the log
 pub reached-bound : {log : List ℕ} {n p : ℕ} {cut : List Event} → Reached log n p cut → (2 ≤ p) × (p ≤ length log)

@@ -8,7 +8,7 @@ use lib.ListN.{length, getD}
 use Rattle.order.specs.Order.{Event, idle, mark, send, receipt, Sound}
 use Rattle.order.specs.Flight.{inFlight}
 
--- the events of an accepted log, the latest first
+-- such a row, the latest event first
 pub record Lawful (n : ℕ) (cut : List Event) : Type 0 where
   pub some-node : 1 ≤ n
   pub few-nodes : n ≤ 32

@@ -42,16 +42,16 @@ pub data Breaks (n : ℕ) (cut : List Event) (p : ℕ) : Record → ℕ → ℕ 
   breaks-11 : {j : Node} {m : MessageNumber} {a b q : ℕ} → length cut < 4096 → j .0 < n
       → Flying (m .0) a b cut q → b ≢ j .0 → Breaks n cut p (Receipt j m) 11 (p + 2)
 
--- an event that is a send finds room for its message
-abbrev pub Room : List Event → Event → Type 0
-Room cut (idle i) = Unit {0}
-Room cut (mark i) = Unit {0}
-Room cut (send i j m) = length (inFlight cut) < 128
-Room cut (receipt j m) = Unit {0}
+-- where the event is a send, less than 128 messages are in flight
+abbrev pub Space : List Event → Event → Type 0
+Space cut (idle i) = Unit {0}
+Space cut (mark i) = Unit {0}
+Space cut (send i j m) = length (inFlight cut) < 128
+Space cut (receipt j m) = Unit {0}
 
--- the record breaks no rule: there is room for its event, which may follow the cut, and for its message
+-- the record breaks no rule: there is space for its event, which may follow the cut, and for its message
 abbrev pub Passes : ℕ → List Event → Record → Type 0
-Passes n cut r = (length cut < 4096) × Allowed n cut (eventOf r) × Room cut (eventOf r)
+Passes n cut r = (length cut < 4096) × Allowed n cut (eventOf r) × Space cut (eventOf r)
 
 -- Every record before place p of the log is whole and passes; they are those of the cut, for n nodes.
 pub data Reached (log : List ℕ) (n : ℕ) : ℕ → List Event → Type 0 where

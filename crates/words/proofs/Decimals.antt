@@ -4,7 +4,6 @@ use mathlib.Core.Path.{_≡_, refl, ap, _∙_}
 use mathlib.Core.Bool.{Bool, true, false, cond}
 use mathlib.Core.List.{List, [], _∷_, _++_}
 use Prim.Native.Nat.{ℕ, zero, suc, _+_, _/_, _%_, _^_, _≤_, _<_}
-use native.Mathlib.Nat.{pow-succ'}
 use native.Mathlib.Omega.{arith}
 use lib.Dec.{ltb}
 use lib.ListN.{length, length-append}
@@ -48,7 +47,7 @@ digits-bound k (suc most) n h = go k h _ refl (λ k. digits-bound k most (n / 10
     go k l true e fewer = omega arith
     go zero l false e fewer = omega (arith, ltb-false n 10 e)
     go (suc k) l false e fewer =
-        omega (arith, fewer k (omega (arith, pow-succ' 10 (suc k))), length-append (digits most (n / 10)) (digit (n % 10) ∷ []))
+        omega (arith, fewer k (omega arith), length-append (digits most (n / 10)) (digit (n % 10) ∷ []))
 
 -- sixteen bits are at most five digits
 pub short-decimal : (n : ℕ) → n < 65536 → length (decimal n) ≤ 5

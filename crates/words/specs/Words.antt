@@ -1,12 +1,9 @@
--- A number in decimal digits, and bytes laid over a room.
+-- A number in decimal digits, and a word behind it.
 -- Assumes nothing.
-use mathlib.Core.Path.{_≡_}
 use mathlib.Core.Bool.{cond}
 use mathlib.Core.List.{List, [], _∷_, _++_}
-use Prim.Native.Nat.{ℕ, zero, suc, _+_, _/_, _%_, _≤_}
+use Prim.Native.Nat.{ℕ, zero, suc, _+_, _/_, _%_}
 use lib.Dec.{ltb}
-use lib.ListN.{length}
-use Rattle.groups.specs.Groups.{laid}
 
 -- the code of a digit: 48 is `0`
 abbrev pub digit : ℕ → ℕ
@@ -24,9 +21,3 @@ decimal n = digits (suc n) n
 -- a number and the word behind it
 abbrev pub counted : ℕ → List ℕ → List ℕ
 counted n word = decimal n ++ word
-
--- the bytes lie over the room from a place on, all of them within it, and `past` is the place past them
-pub record Laid (at : ℕ) (bytes room room′ : List ℕ) (past : ℕ) : Type 0 where
-  pub past-is : past ≡ at + length bytes
-  pub within : past ≤ length room
-  pub room-is : room′ ≡ laid at bytes room

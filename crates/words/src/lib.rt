@@ -2,7 +2,8 @@
 ghost use Prim.Native.Nat.{_+_, _≤_, _<_};
 ghost use mathlib.Core.List.{[], _∷_};
 ghost use lib.ListN.{length};
-ghost use Rattle.words.specs.Words.{digit, decimal, counted, Laid};
+ghost use Rattle.groups.specs.Groups.{Laid};
+ghost use Rattle.words.specs.Words.{digit, decimal, counted};
 
 // Lays a word over the room from a place on, and answers the place past it.
 pub fn word(bytes: &[u8], at: usize, room: &mut [u8]) -> usize

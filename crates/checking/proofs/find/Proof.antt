@@ -41,23 +41,30 @@ returns-2 c = walking-bad (c .before .before .before .loop .inv) (sym (c .before
 enum-known-mark : tie.Need-enum-known-mark Inv-loop μ-loop
 enum-known-mark c = search needs
 
+-- the head of the loop, from a group that is good
+abbrev head : tie.After-known-told Inv-loop μ-loop → tie.At-loop Inv-loop μ-loop
+head c = c .before .before .before .before
+
 -- what stands at the place reached
-told : (c : tie.After-known-told Inv-loop μ-loop) → groupSeen (c .before .before .before .before .before .before .args .report .now) (c .before .before .before .before .loop .at) ≡ Good (c .before .mark .given .0 .0) (c .before .mark .given .0 .1 .0)
+told : (c : tie.After-known-told Inv-loop μ-loop) → groupSeen (head c .before .before .args .report .now) (head c .loop .at) ≡ Good (c .before .mark .given .0 .0) (c .before .mark .given .0 .1 .0)
 told c = sym (c .before .before .before .group .ensures) ∙ c .before .mark .given .1
 
 returns-3 : tie.Need-returns-3 Inv-loop μ-loop
-returns-3 c = walking-many (c .before .before .before .before .before .loop .inv) _ _ (told (c .before)) (c .if1 .taken)
+returns-3 c = walking-many (head (c .before) .loop .inv) _ _ (told (c .before)) (c .if1 .taken)
 
 slice-aggregate-repeated : tie.Need-slice-aggregate-repeated Inv-loop μ-loop
-slice-aggregate-repeated c = sym (c .before .before .before .before .before .before .loop .inv .greatest .nodes)
+slice-aggregate-repeated c = sym (head (c .before .before) .loop .inv .greatest .nodes)
 
 repeated-requires : tie.Need-repeated-requires Inv-loop μ-loop
-repeated-requires c κs = let w = c .before .before .before .before .before .before .loop .inv in
+repeated-requires c κs =
+    let w = head (c .before .before) .loop .inv in
     let here = walking-group w _ _ (told (c .before .before)) in
     (w .all-good, (w .greatest, (here .0, here .1)))
 
 returns-4 : tie.Need-returns-4 Inv-loop μ-loop
-returns-4 c = walking-repeated (c .before .before .before .before .before .before .before .before .before .loop .inv) _ _ (told (c .before .before .before .before .before)) (sym (c .before .before .repeated .ensures .0) ∙ c .if2 .taken)
+returns-4 c =
+    let group = c .before .before .before .before .before in
+    walking-repeated (head group .loop .inv) _ _ (told group) (sym (c .before .before .repeated .ensures .0) ∙ c .if2 .taken)
 
 place-of-requires : tie.Need-place-of-requires Inv-loop μ-loop
 place-of-requires c κs = tt
@@ -66,16 +73,20 @@ place-of-requires-2 : tie.Need-place-of-requires-2 Inv-loop μ-loop
 place-of-requires-2 c κs = tt
 
 add-groups : tie.Need-add-groups Inv-loop μ-loop
-add-groups c = omega (arith, walking-inside (c .before .before .before .before .before .before .before .before .before .before .before .loop .inv) .1)
+add-groups c = omega (arith, walking-inside (head (c .before .before .before .before .before .before .before) .loop .inv) .1)
 
 loop-less : tie.Need-loop-less Inv-loop μ-loop
-loop-less c = let w = c .before .before .before .before .before .before .before .before .before .before .before .loop .inv in
-    let ahead = walking-ahead w _ _ (told (c .before .before .before .before .before .before .before)) in
-    omega (arith, ahead)
+loop-less c =
+    let group = c .before .before .before .before .before .before .before in
+    let ahead = walking-ahead (head group .loop .inv) _ _ (told group) in
+    omega arith
 
 loop-again : tie.Need-loop-again Inv-loop μ-loop
-loop-again c = let l = c .before .before .before .before .before .before .before .before .before .before .before .loop in
-    let more = walking-more (l .inv) _ _ (told (c .before .before .before .before .before .before .before)) (c .before .before .before .before .before .before .if1 .left) (sym (c .before .before .before .before .repeated .ensures .0) ∙ c .before .before .if2 .left) (c .before .before .before .before .repeated .ensures .1) in
+loop-again c =
+    let new = c .before .before .before .before in
+    let group = new .before .before .before in
+    let l = head group .loop in
+    let more = walking-more (l .inv) _ _ (told group) (new .before .before .if1 .left) (sym (new .repeated .ensures .0) ∙ c .before .before .if2 .left) (new .repeated .ensures .1) in
     rw (add-one (l .groups), c .before .place-of .ensures, c .place-of2 .ensures) more
 
 pub find-spec : {M : Type 1} → statement M

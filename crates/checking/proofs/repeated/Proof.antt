@@ -31,7 +31,7 @@ search-requires : tie.Need-search-requires
 search-requires c κs = search needs
 
 returns-2 : tie.Need-returns-2
-returns-2 c = let p = c .before .before .before .before .before .before .before .pre in (c .search .ensures, mark-below _ (p .1 .0) _ (p .1 .1 .0) (p .1 .1 .1) (omega (arith, c .before .if1 .left)))
+returns-2 c = let p = c .before .before .before .before .before .before .before .pre in (c .search .ensures, mark-below _ (p .1 .0) _ (p .1 .1 .0) (p .1 .1 .1) (omega arith))
 
 pub repeated-spec : {M : Type 1} → statement M
 repeated-spec =

@@ -1,6 +1,6 @@
 -- `closing::lay_refusal` meets its contract: the place lies behind the number.
 -- Assumes nothing.
-use Rattle.words.proofs.Laying.{and-then}
+use Rattle.groups.proofs.Laying.{and-then}
 use Rattle.closing.specs.Closing.{refusedLine}
 use borrow.Author.Needs.{needs}
 use Rattle.closing.proofs.lay_refusal.Statement.{statement}

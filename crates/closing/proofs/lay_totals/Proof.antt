@@ -1,6 +1,6 @@
 -- `closing::lay_totals` meets its contract: each total lies behind the one before.
 -- Assumes nothing.
-use Rattle.words.proofs.Laying.{and-then}
+use Rattle.groups.proofs.Laying.{and-then}
 use Rattle.closing.specs.Closing.{okLine}
 use borrow.Author.Needs.{needs}
 use Rattle.closing.proofs.lay_totals.Statement.{statement}

@@ -23,23 +23,20 @@ count-at-requires c κs = c .before .loop .inv .one-inside
 count-at-requires-2 : tie.Need-count-at-requires-2 Inv-loop μ-loop
 count-at-requires-2 c κs = c .before .before .loop .inv .other-inside
 
-past-count-requires : tie.Need-past-count-requires Inv-loop μ-loop
-past-count-requires c κs = c .before .before .before .before .before .loop .inv .one-inside
-
-past-count-requires-2 : tie.Need-past-count-requires-2 Inv-loop μ-loop
-past-count-requires-2 c κs = c .before .before .before .before .before .before .loop .inv .other-inside
-
 add-k : tie.Need-add-k Inv-loop μ-loop
-add-k c = omega (arith, c .before .before .before .before .before .before .before .loop .inv .few)
+add-k c = omega (arith, c .before .before .before .before .before .before .before .before .before .loop .inv .few)
 
 loop-less : tie.Need-loop-less Inv-loop μ-loop
-loop-less c = omega (arith, c .before .before .before .before .before .before .loop-test .taken)
+loop-less c = omega (arith, c .before .before .before .before .before .before .before .before .loop-test .taken)
 
 loop-again : tie.Need-loop-again Inv-loop μ-loop
-loop-again c = let l = c .before .before .before .before .before .before .before .loop in
+loop-again c =
+    let l = c .before .before .before .before .before .before .before .before .before .loop in
+    let a = c .before .before .before .before .before .before .before .count-at .ensures in
+    let b = c .before .before .before .before .before .before .count-at2 .ensures in
     let up = c .before .before .before .if1 .came in
-    let down = c .before .before .if2 .came in
-    rw (c .before .past-count .ensures, c .past-count2 .ensures) (weighed-more (l .inv) (c .before .before .before .before .before .before .loop-test .taken) _ _ (c .before .before .before .before .before .count-at .ensures) (c .before .before .before .before .count-at2 .ensures) _ _
+    let down = c .if2 .came in
+    rw (a .1, b .1) (weighed-more (l .inv) (c .before .before .before .before .before .before .before .before .loop-test .taken) _ _ (a .0) (b .0) _ _
     (λ h. ⊎-elim (λ w. w .1) (λ w. absurd (omega (arith, w .0 .left, h))) up)
     (λ h. ⊎-elim (λ w. absurd (omega (arith, w .0 .taken, h))) (λ w. w .1) up)
     (λ h. ⊎-elim (λ w. w .1) (λ w. absurd (omega (arith, w .0 .left, h))) down)
@@ -60,8 +57,6 @@ weigh-spec =
     loop-holds
     count-at-requires
     count-at-requires-2
-    past-count-requires
-    past-count-requires-2
     add-k
     loop-less
     loop-again

@@ -45,7 +45,7 @@ returns : tie.Need-returns
 returns c =
     let a = c .args in
     let laid = stores-laid (a .at) (a .kind) (a .node .0) (a .number % 256) (a .number / 256) (a .room .now) (c .pre) in
-    record { past-is = search needs; room-is = laid }
+    record { past-is = search needs; within = search needs; room-is = laid }
 
 pub four-bytes-spec : {M : Type 1} → statement M
 four-bytes-spec =

@@ -8,7 +8,7 @@ use borrow.Author.Needs.{needs}
 use lib.ListN.{length, getD}
 use Rattle.bits.specs.Bits.{bit}
 use Rattle.machine.specs.Answer.{flagged}
-use Rattle.groups.specs.Groups.{fourBytes, causeRecords, stampOf, groupOf, rowAnswer, Reached}
+use Rattle.groups.specs.Groups.{fourBytes, causeRecords, stampOf, groupOf, rowAnswer, Laid}
 use Rattle.groups.proofs.Records.{causes-length}
 use Rattle.groups.proofs.GroupSizes.{stamps-size, set-size, causes-set}
 use Rattle.groups.proofs.GroupWritten.{unwritten, size-counted, group-written}
@@ -31,11 +31,11 @@ sized c =
 stamp-few : (c : tie.After-stamp-bytes) → c .stamp-bytes .result ≤ 128
 stamp-few c =
     let a = c .before .before .before .before .before .args in
-    omega (arith, c .stamp-bytes .ensures, stamps-size (length (a .row .now)) (stampOf (a .node .0) (a .row .now)))
+    omega (arith, stamps-size (length (a .row .now)) (stampOf (a .node .0) (a .row .now)))
 
 -- at most 32 flags are set
 causes-few : (c : tie.After-stamp-bytes) → c .before .count .result ≤ 32
-causes-few c = omega (arith, c .before .count .ensures, set-size 32 (c .before .before .before .before .before .args .flags))
+causes-few c = omega (arith, set-size 32 (c .before .before .before .before .before .args .flags))
 
 cast-own : tie.Need-cast-own
 cast-own c = search needs
@@ -56,7 +56,7 @@ mul-bytes : tie.Need-mul-bytes
 mul-bytes c = search needs
 
 add-bytes-2 : tie.Need-add-bytes-2
-add-bytes-2 c = omega (arith, stamp-few c, causes-few c)
+add-bytes-2 c = omega (arith, stamp-few c)
 
 returns : tie.Need-returns
 returns c = unwritten (sized (c .before)) (c .if1 .taken)
@@ -85,10 +85,6 @@ write-causes-requires c κs =
       arith,
       causes-length causes,
       causes-set (s .args .row .now) (s .args .flags) (s .pre .0 .1) (s .pre .1),
-      counted .before .count .ensures,
-      counted .stamp-bytes .ensures,
-      head .head .ensures .past-is,
-      stamps .write-stamps .ensures .past-is,
     ) in
     (s .pre .0 .1, omega (arith, fits))
 
@@ -103,10 +99,10 @@ returns-2 c =
     let number = head .before .before in
     let counted = number .before .before in
     let s = counted .before .before .before .before .before in
-    let announced : Reached 0 (fourBytes 0x21 (s .args .node .0) (number .stamp-at .result) ++ (counted .before .count .result ∷ []))
+    let announced : Laid 0 (fourBytes 0x21 (s .args .node .0) (number .stamp-at .result) ++ (counted .before .count .result ∷ []))
     (s .args .room .now) (head .head .last .1 .1 .1 .0) (head .head .result) = head .head .ensures in
     group-written (s .args .node .0) (s .args .row .now) (s .args .flags) (s .pre .0 .1) (s .pre .1) (number .stamp-at .ensures)
-    (counted .before .count .ensures) (sized counted) (omega arith) (omega arith) announced (stamps .write-stamps .ensures)
+    (counted .before .count .ensures) (sized counted) (omega arith) announced (stamps .write-stamps .ensures)
     (causes .write-causes .ensures)
 
 pub group-spec : {M : Type 1} → statement M

@@ -2,7 +2,7 @@
 -- Assumes nothing.
 use native.Mathlib.Omega.{arith}
 use borrow.Author.Needs.{needs}
-use Rattle.groups.proofs.Laying.{store-laid, reached-more}
+use Rattle.groups.proofs.Laying.{one-laid, and-then}
 use Rattle.groups.proofs.head.Statement.{statement}
 use Rattle.groups.proofs.head.Tie as tie
 
@@ -22,8 +22,7 @@ returns : tie.Need-returns
 returns c =
     let first = c .before .before .four-bytes in
     let room = first .last .1 .1 .1 .1 .0 in
-    let last = store-laid (first .result) (c .before .before .before .before .before .args .causes) room (omega arith) in
-    reached-more (omega arith) (first .ensures) (record { past-is = search needs; room-is = last })
+    and-then (first .ensures) (one-laid room (first .result) (c .before .before .before .before .before .args .causes) (omega arith))
 
 pub head-spec : {M : Type 1} → statement M
 head-spec =

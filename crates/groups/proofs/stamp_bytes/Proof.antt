@@ -1,4 +1,4 @@
--- `groups::stamp_bytes` meets its contract: below k, the bytes counted are those of the records of the first k nodes.
+-- `groups::stamp_bytes` meets its contract: after k turns the bytes counted are those of the records of the first k nodes.
 -- Assumes nothing.
 use mathlib.Core.Path.{_≡_, refl, ap, _∙_}
 use mathlib.Core.Logic.{⊎-elim}
@@ -39,7 +39,6 @@ loop-again c =
     let s = c .before .before .before .before .before in
     let l = c .before .before .before .loop in
     let stamp : ℕ → ℕ = stampOf (s .args .own) (s .args .row .now) in
-    let told : c .before .stamp-at .result ≡ stamp (l .k) = c .before .stamp-at .ensures in
     let counts : c .if1 .bytes ≡ l .bytes + length (stampRecord (l .k) (stamp (l .k))) =
     ⊎-elim (λ w. omega (arith, ap length (stamp-some (l .k) (stamp (l .k)) (omega arith))))
     (λ w. omega (arith, ap length (stamp-none (l .k) (stamp (l .k)) (omega arith)))) (c .if1 .came) in (

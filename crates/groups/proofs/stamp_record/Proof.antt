@@ -2,7 +2,7 @@
 -- Assumes nothing.
 use native.Mathlib.Omega.{arith}
 use borrow.Author.Needs.{needs}
-use Rattle.groups.proofs.Laying.{reached-none}
+use Rattle.groups.proofs.Laying.{none-laid}
 use Rattle.groups.proofs.Records.{stamp-some, stamp-none}
 use Rattle.groups.proofs.stamp_record.Statement.{statement}
 use Rattle.groups.proofs.stamp_record.Tie as tie
@@ -21,7 +21,7 @@ returns c =
     rw (stamp-some (a .node .0) (a .count) (omega arith)) (c .before .before .four-bytes .ensures)
 
 returns-2 : tie.Need-returns-2
-returns-2 c = rw (stamp-none (c .before .before .args .node .0) (c .before .before .args .count) (omega arith)) (reached-none _ _)
+returns-2 c = rw (stamp-none (c .before .before .args .node .0) (c .before .before .args .count) (omega arith)) (none-laid _ _ (omega arith))
 
 pub stamp-record-spec : {M : Type 1} → statement M
 stamp-record-spec = tie.close (tie.spec four-bytes-requires same-length returns returns-2)

@@ -8,8 +8,8 @@ use borrow.Author.Needs.{needs}
 use lib.ListN.{length, getD}
 use Rattle.bits.specs.Bits.{bit}
 use Rattle.machine.specs.Answer.{flagged}
-use Rattle.groups.specs.Groups.{causeRecords, Reached}
-use Rattle.groups.proofs.Laying.{reached-none}
+use Rattle.groups.specs.Groups.{causeRecords, Laid}
+use Rattle.groups.proofs.Laying.{none-laid}
 use Rattle.groups.proofs.Records.{causeAt, cause-size, causes-grow}
 use Rattle.groups.proofs.Turns.{turn-fits, turn-done}
 use Rattle.groups.proofs.write_causes.Statement.{statement}
@@ -17,14 +17,14 @@ use Rattle.groups.proofs.write_causes.Tie as tie
 
 abbrev Inv-loop : tie.InvT-loop
 Inv-loop row flags from room₀ at₀ k₀ room at k =
-    (k ≤ length row) × (length room ≡ length room₀) × Reached from (causeRecords (flagged k (λ j. getD row j 0) (bit flags))) room₀ room at
+    (k ≤ length row) × (length room ≡ length room₀) × Laid from (causeRecords (flagged k (λ j. getD row j 0) (bit flags))) room₀ room at
 
 abbrev μ-loop : tie.MeasureT-loop
 μ-loop row flags from room₀ at₀ k₀ room at k = length row - k
 
 loop-holds : tie.Need-loop-holds Inv-loop μ-loop
 unfolding causeRecords flagged
-loop-holds c = (search needs, refl, reached-none _ _)
+loop-holds c = (search needs, refl, none-laid _ _ (omega arith))
 
 mul-count : tie.Need-mul-count Inv-loop μ-loop
 mul-count c = search needs
@@ -48,7 +48,7 @@ cause-record-requires c κs =
     let count : ℕ → ℕ = λ k. getD (s .args .row .now) k 0 in
     let flag : ℕ → Bool = bit (s .args .flags) in
     let fits = turn-fits (causes-grow count flag) _ _ _ (s .pre .1) (c .before .before .before .loop-test .taken) (l .inv .1) (l .inv .2) in
-    rw (c .before .test .ensures) (omega (arith, fits, cause-size (flag (l .k)) (l .k, count (l .k))))
+    rw (c .before .test .ensures) (omega (arith, cause-size (flag (l .k)) (l .k, count (l .k))))
 
 add-k : tie.Need-add-k Inv-loop μ-loop
 add-k c = search needs
@@ -63,7 +63,7 @@ loop-again c =
     let r = c .before .before .cause-record in
     let count : ℕ → ℕ = λ k. getD (s .args .row .now) k 0 in
     let flag : ℕ → Bool = bit (s .args .flags) in
-    let next : Reached (l .at) (causeRecords (causeAt count flag (l .k))) (l .room) (r .last .1 .1 .1 .1 .0) (r .result) =
+    let next : Laid (l .at) (causeRecords (causeAt count flag (l .k))) (l .room) (r .last .1 .1 .1 .1 .0) (r .result) =
     rw (c .before .before .before .before .test .ensures) at (r .ensures) in (
       search needs,
       r .kept .1 .1 .1 .1 .0 ∙ l .inv .1,

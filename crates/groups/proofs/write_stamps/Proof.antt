@@ -5,8 +5,8 @@ use Prim.Native.Nat.{ℕ, _≤_, _-_}
 use native.Mathlib.Omega.{arith}
 use borrow.Author.Needs.{needs}
 use lib.ListN.{length}
-use Rattle.groups.specs.Groups.{stampOf, stampRecord, stampRecords, Reached}
-use Rattle.groups.proofs.Laying.{reached-none}
+use Rattle.groups.specs.Groups.{stampOf, stampRecord, stampRecords, Laid}
+use Rattle.groups.proofs.Laying.{none-laid}
 use Rattle.groups.proofs.Records.{stamps-grow}
 use Rattle.groups.proofs.Turns.{turn-fits, turn-done}
 use Rattle.groups.proofs.write_stamps.Statement.{statement}
@@ -14,14 +14,14 @@ use Rattle.groups.proofs.write_stamps.Tie as tie
 
 abbrev Inv-loop : tie.InvT-loop
 Inv-loop row own from room₀ at₀ k₀ room at k =
-    (k ≤ length row) × (length room ≡ length room₀) × Reached from (stampRecords k (stampOf own row)) room₀ room at
+    (k ≤ length row) × (length room ≡ length room₀) × Laid from (stampRecords k (stampOf own row)) room₀ room at
 
 abbrev μ-loop : tie.MeasureT-loop
 μ-loop row own from room₀ at₀ k₀ room at k = length row - k
 
 loop-holds : tie.Need-loop-holds Inv-loop μ-loop
 unfolding stampRecords
-loop-holds c = (search needs, refl, reached-none _ _)
+loop-holds c = (search needs, refl, none-laid _ _ (omega arith))
 
 stamp-at-requires : tie.Need-stamp-at-requires Inv-loop μ-loop
 stamp-at-requires c κs = search needs
@@ -48,7 +48,7 @@ loop-again c =
     let l = c .before .before .before .before .before .before .loop in
     let r = c .before .before .stamp-record in
     let stamp : ℕ → ℕ = stampOf (s .args .own) (s .args .row .now) in
-    let next : Reached (l .at) (stampRecord (l .k) (stamp (l .k))) (l .room) (r .last .1 .1 .1 .0) (r .result) =
+    let next : Laid (l .at) (stampRecord (l .k) (stamp (l .k))) (l .room) (r .last .1 .1 .1 .0) (r .result) =
     rw (c .before .before .before .before .stamp-at .ensures) at (r .ensures) in (
       search needs,
       r .kept .1 .1 .1 .0 ∙ l .inv .1,

@@ -1,9 +1,9 @@
 -- `print_log` is safe: the report lies within its room.
 -- Assumes nothing.
-use mathlib.Core.Path.{sym, _∙_, subst}
-use Prim.Native.Nat.{ℕ, _≤_}
-use native.Mathlib.Nat.{le-trans, le-refl}
-use lib.ListN.{length, length-replicate}
+use mathlib.Core.Path.{sym, _∙_}
+use Prim.Native.Nat.{ℕ}
+use native.Mathlib.Omega.{arith}
+use lib.ListN.{length-replicate}
 use lib.Seq.{length-take-le}
 use borrow.Author.Needs.{needs}
 use Rattle.hatsuvren.proofs.print_log.Statement.{statement}
@@ -24,8 +24,8 @@ slice-aggregate-run-4 c = search needs
 run-requires : tie.Need-run-requires
 run-requires c κs = search needs
 
-enum-known-tally : tie.Need-enum-known-tally
-enum-known-tally c = search needs
+enum-known-answer : tie.Need-enum-known-answer
+enum-known-answer c = search needs
 
 within-requires : tie.Need-within-requires
 within-requires c κs = search needs
@@ -36,7 +36,7 @@ array-share-prefix-report c = search needs
 slice-aggregate-print-marks : tie.Need-slice-aggregate-print-marks
 slice-aggregate-print-marks c =
     let size = c .before .before .before .before .before .before .before .before .before .run .kept .1 .1 .1 .1 .1 .0 ∙ length-replicate {A = ℕ} 16384 0 in
-    sym (length-take-le _ _ (le-trans (c .before .within .ensures) (subst (λ (n : ℕ). n ≤ length (c .before .before .before .before .before .before .before .before .before .run .last .1 .1 .1 .1 .1 .0)) size (le-refl _))))
+    sym (length-take-le _ _ (omega arith))
 
 node-count-requires : tie.Need-node-count-requires
 node-count-requires c κs = search needs
@@ -47,35 +47,20 @@ print-marks-requires c κs = search needs
 print-totals-requires : tie.Need-print-totals-requires
 print-totals-requires c κs = search needs
 
-enum-told : tie.Need-enum-told
-enum-told c = search needs
+returns : tie.Need-returns
+returns c = search needs
+
+number-requires : tie.Need-number-requires
+number-requires c κs = search needs
+
+place-requires : tie.Need-place-requires
+place-requires c κs = search needs
 
 print-refusal-requires : tie.Need-print-refusal-requires
 print-refusal-requires c κs = search needs
 
-enum-known-number : tie.Need-enum-known-number
-enum-known-number c = search needs
-
-print-refusal-requires-2 : tie.Need-print-refusal-requires-2
-print-refusal-requires-2 c κs = search needs
-
-enum-known-place : tie.Need-enum-known-place
-enum-known-place c = search needs
-
-print-refusal-requires-3 : tie.Need-print-refusal-requires-3
-print-refusal-requires-3 c κs = search needs
-
-returns : tie.Need-returns
-returns c = search needs
-
 returns-2 : tie.Need-returns-2
 returns-2 c = search needs
-
-returns-3 : tie.Need-returns-3
-returns-3 c = search needs
-
-returns-4 : tie.Need-returns-4
-returns-4 c = search needs
 
 pub print-log-spec : {M : Type 1} → statement M
 print-log-spec =
@@ -86,20 +71,15 @@ print-log-spec =
     slice-aggregate-run-3
     slice-aggregate-run-4
     run-requires
-    enum-known-tally
+    enum-known-answer
     within-requires
     array-share-prefix-report
     slice-aggregate-print-marks
     node-count-requires
     print-marks-requires
     print-totals-requires
-    enum-told
-    print-refusal-requires
-    enum-known-number
-    print-refusal-requires-2
-    enum-known-place
-    print-refusal-requires-3
     returns
-    returns-2
-    returns-3
-    returns-4)
+    number-requires
+    place-requires
+    print-refusal-requires
+    returns-2)

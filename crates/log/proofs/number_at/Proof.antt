@@ -27,7 +27,7 @@ cast-high : tie.Need-cast-high
 cast-high c = omega (arith, small c (c .before .before .args .at + 1))
 
 mul-t9 : tie.Need-mul-t9
-mul-t9 c = let at = c .before .before .args .at in omega (arith, small c at, small c (at + 1))
+mul-t9 c = let at = c .before .before .args .at in omega (arith, small c (at + 1))
 
 add-t10 : tie.Need-add-t10
 add-t10 c = let at = c .before .before .args .at in omega (arith, small c at, small c (at + 1))

@@ -33,7 +33,6 @@ returns-4 : tie.Need-returns-4
 unfolding openingOf
 returns-4 c =
     let h = c .before .before .before .before .before .if1 .left in
-    let k = c .before .if3 .left in
     let one : 1 ≤ getD (c .before .before .before .before .before .before .args .log .now) 1 0 = omega arith in
     simp (le-leb _ _ h, eq-eqb _ _ (c .before .before .before .if2 .left), le-leb _ _ one, lt-leb _ _ (c .if4 .taken))
 
@@ -41,7 +40,6 @@ returns-5 : tie.Need-returns-5
 unfolding openingOf
 returns-5 c =
     let h = c .before .before .before .before .before .if1 .left in
-    let k = c .before .if3 .left in
     let one : 1 ≤ getD (c .before .before .before .before .before .before .args .log .now) 1 0 = omega arith in
     simp (le-leb _ _ h, eq-eqb _ _ (c .before .before .before .if2 .left), le-leb _ _ one, le-leb _ _ (c .if4 .left))
 

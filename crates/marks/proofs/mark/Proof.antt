@@ -7,7 +7,7 @@ use lib.ListN.{getD, set, length-set}
 use borrow.Rule.Slice.PartMut.{midOf, putMid, set-mid-at}
 use Rattle.steps.specs.Steps.{Marked}
 use Rattle.room.proofs.Places.{row-within}
-use Rattle.steps.proofs.Parts.{part-size, part-length, part-at}
+use Rattle.steps.proofs.Parts.{part-at}
 use Rattle.steps.proofs.MarkFollows.{mark-follows}
 use borrow.Author.Needs.{needs}
 use Rattle.marks.proofs.mark.Statement.{statement}
@@ -44,9 +44,7 @@ count-up-requires c κs =
     let a = s .args in
     let n = a .nodes in
     let i = a .node .0 in
-    let size = part-size (n * i) n in
-    let fits = part-length (a .counts .now) (n * i) (n * i + n - n * i) (omega (arith, room s)) in
-    (omega (arith, fits), rw (part-at (a .counts .now) (n * i) (n * i + n - n * i) i (omega arith)) (s .pre .4))
+    (omega arith, rw (part-at (a .counts .now) (n * i) (n * i + n - n * i) i (omega arith)) (s .pre .4))
 
 cast-only : tie.Need-cast-only
 cast-only c = search needs
@@ -87,13 +85,11 @@ returns c =
     let counts = a .counts .now in
     let k = n * i + n - n * i in
     let row = midOf (n * i) k counts in
-    let size = part-size (n * i) n in
-    let fits = part-length counts (n * i) k (omega (arith, room s)) in
     let marks : Marked n i counts (a .words .now) (putMid (n * i) k counts (c .before .before .before .count-up .last .0)) (set (set (a .words .now) i (c .only .result)) (32 + n * i + i) 0)
     = record {
       counts-are =
           ap (putMid (n * i) k counts) (c .before .before .before .count-up .ensures)
-          ∙ set-mid-at (n * i) k i counts (suc (getD row i 0)) (omega (arith, fits))
+          ∙ set-mid-at (n * i) k i counts (suc (getD row i 0)) (omega arith)
           ∙ ap (λ v. set counts (n * i + i) (suc v)) (part-at counts (n * i) k i (omega arith));
       words-are = ap (λ w. set (set (a .words .now) i w) (32 + n * i + i) 0) (c .only .ensures);
     } in

@@ -1,6 +1,5 @@
 -- `count` meets its contract: each total grows by what its record adds.
 -- Assumes nothing.
-use mathlib.Core.Path.{refl}
 use native.Mathlib.Omega.{arith}
 use Rattle.verdict.specs.Verdict.{eventOf}
 use Rattle.passes.specs.Pass.{counted}
@@ -15,7 +14,7 @@ mark-one-requires c κs = search needs
 add-marks : tie.Need-add-marks
 add-marks c =
     let s = c .before .before in
-    omega (arith, s .pre .0 .1, one-most (eventOf (s .args .event)) .0, c .before .mark-one .ensures)
+    omega (arith, one-most (eventOf (s .args .event)) .0)
 
 send-one-requires : tie.Need-send-one-requires
 send-one-requires c κs = search needs
@@ -23,7 +22,7 @@ send-one-requires c κs = search needs
 add-sends : tie.Need-add-sends
 add-sends c =
     let s = c .before .before .before .before in
-    omega (arith, s .pre .0 .2, one-most (eventOf (s .args .event)) .1, c .before .send-one .ensures)
+    omega (arith, one-most (eventOf (s .args .event)) .1)
 
 add-t7 : tie.Need-add-t7
 add-t7 c = search needs
@@ -36,7 +35,7 @@ add-t9 c = search needs
 
 returns : tie.Need-returns
 unfolding counted
-returns c = rw (c .before .before .before .before .before .before .mark-one .ensures) (rw (c .before .before .before .before .send-one .ensures) refl)
+returns c = rw (c .before .before .before .before .before .before .mark-one .ensures, c .before .before .before .before .send-one .ensures)
 
 pub count-spec : {M : Type 1} → statement M
 count-spec =

@@ -4,7 +4,6 @@ use mathlib.Core.Path.{refl}
 use Prim.Native.Nat.{_*_}
 use native.Mathlib.Omega.{arith}
 use Rattle.steps.proofs.Parts.{part-size}
-use Rattle.steps.proofs.Ready.{ready-sizes}
 use Rattle.passes.proofs.MarkShown.{mark-row, mark-asks, mark-written}
 use borrow.Author.Needs.{needs}
 use Rattle.passes.proofs.show_mark.Statement.{statement}
@@ -38,7 +37,7 @@ part-group-start : tie.Need-part-group-start
 part-group-start c = search needs
 
 part-group-end : tie.Need-part-group-end
-part-group-end c = omega (arith, mark-row (c .before .before .before .before .before .before .pre .4), ready-sizes (c .before .before .before .before .before .before .pre .4) .0)
+part-group-end c = omega (arith, mark-row (c .before .before .before .before .before .before .pre .4))
 
 sub-group-2 : tie.Need-sub-group-2
 sub-group-2 c = search needs

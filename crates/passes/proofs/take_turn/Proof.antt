@@ -24,7 +24,10 @@ enum-known-event : tie.Need-enum-known-event
 enum-known-event c = search needs
 
 admit-requires : tie.Need-admit-requires
-admit-requires c κs = stands-place (c .before .before .before .before .before .before .before .before .before .before .pre .2)
+admit-requires c κs =
+    let s = c .before .before .before .before .before .before .before .before .before .before in
+    let here = s .pre .2 in
+    (stands-place here, (s .pre .0, stands-events here, stands-mailed here))
 
 enum-known-number : tie.Need-enum-known-number
 enum-known-number c = search needs

@@ -1,4 +1,4 @@
--- `compare_in` is safe: the front that is lent is as long as `frame::within` says, also once the report was read into it.
+-- `compare_in` is safe: the front that is lent is as long as `room::within` says, also once the report was read into it.
 -- Assumes nothing.
 use mathlib.Core.Path.{sym}
 use lib.Seq.{length-take-le}
@@ -13,7 +13,7 @@ slice-relend-prefix-read-full : tie.Need-slice-relend-prefix-read-full
 slice-relend-prefix-read-full c = search needs
 
 slice-aggregate-read-full : tie.Need-slice-aggregate-read-full
-slice-aggregate-read-full c = sym (length-take-le _ _ (c .before .within .ensures .1))
+slice-aggregate-read-full c = sym (length-take-le _ _ (slice-relend-prefix-read-full (c .before)))
 
 read-full-requires : tie.Need-read-full-requires
 read-full-requires c κs = search needs

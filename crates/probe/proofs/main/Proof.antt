@@ -13,8 +13,8 @@ abbrev μ-loop : tie.MeasureT-loop
 loop-holds : tie.Need-loop-holds Inv-loop μ-loop
 loop-holds c = tt
 
-ask-requires : tie.Need-ask-requires Inv-loop μ-loop
-ask-requires c κs = tt
+next-requires : tie.Need-next-requires Inv-loop μ-loop
+next-requires c κs = tt
 
 sub-turns : tie.Need-sub-turns Inv-loop μ-loop
 sub-turns c = omega arith
@@ -38,7 +38,7 @@ main-spec =
     Inv-loop
     μ-loop
     loop-holds
-    ask-requires
+    next-requires
     sub-turns
     loop-less
     loop-again

@@ -27,7 +27,7 @@ cast-high : tie.Need-cast-high
 cast-high c = omega (arith, small c (c .before .before .args .at + 1))
 
 mul-result : tie.Need-mul-result
-mul-result c = omega (arith, small c (c .before .before .args .at), small c (c .before .before .args .at + 1))
+mul-result c = omega (arith, small c (c .before .before .args .at + 1))
 
 add-result : tie.Need-add-result
 add-result c = omega (arith, small c (c .before .before .args .at), small c (c .before .before .args .at + 1))

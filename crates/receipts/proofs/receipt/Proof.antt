@@ -1,9 +1,8 @@
 -- `receipts::receipt` meets its contract: the three parts that come back are the receiver's row, its columns and the slot.
 -- Assumes nothing.
 use mathlib.Core.Path.{_∙_}
-use Prim.Native.Nat.{_+_, _-_, _*_, _≤_}
+use Prim.Native.Nat.{_+_, _*_, _≤_}
 use native.Mathlib.Omega.{arith}
-use borrow.Rule.Slice.PartMut.{same-len-mid}
 use lib.ListN.{length-set}
 use Rattle.room.proofs.Places.{row-within}
 use Rattle.steps.proofs.Parts.{part-size}
@@ -130,9 +129,7 @@ mul-words c = search needs
 
 slice-write-words : tie.Need-slice-write-words
 slice-write-words c =
-    let a = c .before .before .before .before .before .before .before .before .before .before .before .before .before .before .before .before .before .args in
-    let J = c .before .before .before .before .before .before .join in
-    omega (arith, same-len-mid (32 + a .nodes * a .node .0) (32 + a .nodes * a .node .0 + a .nodes - (32 + a .nodes * a .node .0)) (a .words .now) (J .last .1 .0) (J .kept .1 .0))
+    omega arith
 
 same-length : tie.Need-same-length
 same-length c = search needs
@@ -145,12 +142,14 @@ same-length-3 c = c .before .mail .given .1 ∙ simp length-set
 
 returns : tie.Need-returns
 returns c =
-    let s = c .before .before .before .before .before .before .before .before .before .before .before .before .before .before .before .before .before in
+    let joined = c .before .before .before .before .before .before in
+    let named = joined .before .before .before .before .before in
+    let s = named .before .before .before .before .before .before in
     let a = s .args in
     let n = a .nodes in
     let i = a .node .0 in
-    let J = c .before .before .before .before .before .before .join in
-    let sender = c .before .before .before .before .before .before .before .before .before .before .before .only in
+    let J = joined .join in
+    let sender = named .only in
     let took = letter-received n i (a .counts .now) (a .words .now) (s .pre .1 .0 .0) (s .pre .1 .0 .1) (s .pre .0 .0) (s .pre .0 .1) _ _ (part-size (n * i) n) (part-size (32 + n * i) n)
     (a .slot) (s .pre .0 .2) (a .mail .now) (s .pre .1 .0 .2) _ (part-size (35 * a .slot + 3) n)
     (sender .result) (J .last .1 .1 .1 .1 .0) (J .last .0) (J .last .1 .0) (J .result) (J .kept .0) (J .kept .1 .0) (J .kept .1 .1 .1 .1 .0) (sender .ensures) (J .ensures) in

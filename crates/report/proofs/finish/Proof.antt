@@ -30,8 +30,9 @@ same-length-4 c = search needs
 
 returns-2 : tie.Need-returns-2
 returns-2 c =
-    let s = c .before .before .before .before .before .before .before .before .before .before .before .before .before .before .before .before .before .before .before in
-    settles-complete (s .pre .1 .1) (omega (arith, c .before .before .before .before .before .before .before .before .before .before .before .before .before .if1 .left)) (c .before .before .before .before .before .before .before .before .pass .ensures)
+    let pass = c .before .before .before .before .before .before .before .before in
+    let large = pass .before .before .before .before .before in
+    settles-complete (large .before .before .before .before .before .before .pre .1 .1) (omega (arith, large .if1 .left)) (pass .pass .ensures)
 
 pub finish-spec : {M : Type 1} → statement M
 finish-spec =

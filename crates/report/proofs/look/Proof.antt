@@ -34,12 +34,14 @@ same-length-4 c = search needs
 
 returns : tie.Need-returns
 returns c =
-    let p = c .before .before .before .before .before .before .before .before .before .before .before .before .before .before .before .before .before .before .pass in
-    let s = c .before .before .before .before .before .before .before .before .before .before .before .before .before .before .before .before .before .before .before .before .before .before .before .before .before .before .before .before in
+    let clear = c .before .before .before .before .before .before in
+    let pass = clear .before .before .before .before .before .before .before .before .before .before .before .before in
+    let p = pass .pass in
+    let s = pass .before .before .before .before .before .before .before .before .before .before in
     let size = zero-sizes (s .pre .1) in (
       passing-looked (p .ensures),
       (
-        cleared-zero (p .kept .1 .1 .1 .1 .0 ∙ size .0) (p .kept .1 .1 .1 .1 .1 .0 ∙ size .1) (p .kept .1 .1 .1 .1 .1 .1 .0 ∙ size .2) (c .before .before .before .before .before .before .clear .ensures),
+        cleared-zero (p .kept .1 .1 .1 .1 .0 ∙ size .0) (p .kept .1 .1 .1 .1 .1 .0 ∙ size .1) (p .kept .1 .1 .1 .1 .1 .1 .0 ∙ size .2) (clear .clear .ensures),
         none-lent (s .args .report .now) (p .last .1 .1 .1 .1 .1 .1 .1 .0) (p .kept .1 .1 .1 .1 .1 .1 .1 .0),
       ),
     )

@@ -1,12 +1,30 @@
 -- `run` meets its contract: by whether the rooms are large enough, and what the first record says.
 -- Assumes nothing.
-use mathlib.Core.Path.{sym, _∙_}
+use mathlib.Core.Path.{_≡_, sym, _∙_}
+use Prim.Native.Nat.{_≤_}
+use lib.ListN.{length, take}
 use lib.Seq.{length-take-le}
 use Rattle.verdict.specs.Table.{refused-2, refused-3}
 use Rattle.report.proofs.Endings.{cleared-large, cleared-fronts, ran-cramped, ran-refused, ran-settled}
 use borrow.Author.Needs.{needs}
 use Rattle.report.proofs.run.Statement.{statement}
 use Rattle.report.proofs.run.Tie as tie
+
+-- where the rooms are large enough, what clearing left
+module _ (c : tie.Then1) where
+  abbrev cleared : tie.After-clear
+  cleared = c .before .before .before .before .before .before .before
+
+  sizes : (1024 ≤ length (cleared .clear .last .0)) × (1056 ≤ length (cleared .clear .last .1 .0)) × (4480 ≤ length (cleared .clear .last .1 .1 .0))
+  sizes = cleared-large (c .if1 .taken) (cleared .clear .ensures)
+
+  fronts : (length (take 1024 (cleared .clear .last .0)) ≡ 1024) × (length (take 1056 (cleared .clear .last .1 .0)) ≡ 1056)
+      × (length (take 4480 (cleared .clear .last .1 .1 .0)) ≡ 4480)
+  fronts = (
+    length-take-le 1024 (cleared .clear .last .0) (sizes .0),
+    length-take-le 1056 (cleared .clear .last .1 .0) (sizes .1),
+    length-take-le 4480 (cleared .clear .last .1 .1 .0) (sizes .2),
+  )
 
 clear-requires : tie.Need-clear-requires
 clear-requires c κs = search needs
@@ -27,25 +45,27 @@ cast-settle : tie.Need-cast-settle
 cast-settle c = search needs
 
 slice-relend-prefix-settle : tie.Need-slice-relend-prefix-settle
-slice-relend-prefix-settle c = cleared-large (c .before .before .before .before .if1 .taken) (c .before .before .before .before .before .before .before .before .before .before .before .clear .ensures) .0
+slice-relend-prefix-settle c = sizes (c .before .before .before .before) .0
 
 slice-aggregate-settle : tie.Need-slice-aggregate-settle
-slice-aggregate-settle c = sym (length-take-le 1024 (c .before .before .before .before .before .before .before .before .before .before .before .before .clear .last .0) (cleared-large (c .before .before .before .before .before .if1 .taken) (c .before .before .before .before .before .before .before .before .before .before .before .before .clear .ensures) .0))
+slice-aggregate-settle c = sym (fronts (c .before .before .before .before .before) .0)
 
 slice-relend-prefix-settle-2 : tie.Need-slice-relend-prefix-settle-2
-slice-relend-prefix-settle-2 c = cleared-large (c .before .before .before .before .before .if1 .taken) (c .before .before .before .before .before .before .before .before .before .before .before .before .clear .ensures) .1
+slice-relend-prefix-settle-2 c = sizes (c .before .before .before .before .before) .1
 
 slice-aggregate-settle-2 : tie.Need-slice-aggregate-settle-2
-slice-aggregate-settle-2 c = sym (length-take-le 1056 (c .before .before .before .before .before .before .before .before .before .before .before .before .before .clear .last .1 .0) (cleared-large (c .before .before .before .before .before .before .if1 .taken) (c .before .before .before .before .before .before .before .before .before .before .before .before .before .clear .ensures) .1))
+slice-aggregate-settle-2 c = sym (fronts (c .before .before .before .before .before .before) .1)
 
 slice-relend-prefix-settle-3 : tie.Need-slice-relend-prefix-settle-3
-slice-relend-prefix-settle-3 c = cleared-large (c .before .before .before .before .before .before .if1 .taken) (c .before .before .before .before .before .before .before .before .before .before .before .before .before .clear .ensures) .2
+slice-relend-prefix-settle-3 c = sizes (c .before .before .before .before .before .before) .2
 
 slice-aggregate-settle-3 : tie.Need-slice-aggregate-settle-3
-slice-aggregate-settle-3 c = sym (length-take-le 4480 (c .before .before .before .before .before .before .before .before .before .before .before .before .before .before .clear .last .1 .1 .0) (cleared-large (c .before .before .before .before .before .before .before .if1 .taken) (c .before .before .before .before .before .before .before .before .before .before .before .before .before .before .clear .ensures) .2))
+slice-aggregate-settle-3 c = sym (fronts (c .before .before .before .before .before .before .before) .2)
 
 settle-requires : tie.Need-settle-requires
-settle-requires c κs = (sym (c .before .before .before .before .before .before .before .open .ensures) ∙ c .before .before .before .before .before .nodes .given .1, cleared-fronts (c .before .before .before .before .before .before .before .before .if1 .taken) (c .before .before .before .before .before .before .before .before .before .before .before .before .before .before .before .clear .ensures))
+settle-requires c κs =
+    let large = c .before .before .before .before .before .before .before .before in
+    (sym (c .before .before .before .before .before .before .before .open .ensures) ∙ c .before .before .before .before .before .nodes .given .1, cleared-fronts (large .if1 .taken) (cleared large .clear .ensures))
 
 same-length : tie.Need-same-length
 same-length c = search needs
@@ -57,7 +77,9 @@ same-length-3 : tie.Need-same-length-3
 same-length-3 c = search needs
 
 returns : tie.Need-returns
-returns c = ran-refused (c .before .before .before .before .if1 .taken) (c .before .before .before .before .before .before .before .before .before .before .before .clear .ensures) (refused-2 (sym (c .before .before .before .open .ensures) ∙ c .before .place .given .1))
+returns c =
+    let large = c .before .before .before .before in
+    ran-refused (large .if1 .taken) (cleared large .clear .ensures) (refused-2 (sym (c .before .before .before .open .ensures) ∙ c .before .place .given .1))
 
 same-length-4 : tie.Need-same-length-4
 same-length-4 c = search needs
@@ -69,7 +91,9 @@ same-length-6 : tie.Need-same-length-6
 same-length-6 c = search needs
 
 returns-2 : tie.Need-returns-2
-returns-2 c = ran-refused (c .before .before .before .before .if1 .taken) (c .before .before .before .before .before .before .before .before .before .before .before .clear .ensures) (refused-3 (sym (c .before .before .before .open .ensures) ∙ c .before .place2 .given .1))
+returns-2 c =
+    let large = c .before .before .before .before in
+    ran-refused (large .if1 .taken) (cleared large .clear .ensures) (refused-3 (sym (c .before .before .before .open .ensures) ∙ c .before .place2 .given .1))
 
 same-length-7 : tie.Need-same-length-7
 same-length-7 c = search needs
@@ -85,15 +109,15 @@ same-length-10 c = search needs
 
 returns-3 : tie.Need-returns-3
 returns-3 c =
-    let clear = c .before .before .before .before .before .before .before .before .before .before .before .before .before .before .before .before .before .before .before .before .before .before .before .before .clear in
-    let large = c .before .before .before .before .before .before .before .before .before .before .before .before .before .before .before .before .before .if1 .taken in
-    let done = c .before .before .before .before .before .before .before .before .settle in
-    let size = cleared-large large (clear .ensures) in
-    ran-settled large (clear .ensures) (c .before .before .before .before .before .before .before .before .before .before .before .before .before .before .before .before .before .before .before .before .before .before .before .before .before .before .before .before .before .before .before .before .before .args .mode) _ _ _
-    (done .kept .1 .1 .1 .1 .0 ∙ length-take-le 1024 (clear .last .0) (size .0))
-    (done .kept .1 .1 .1 .1 .1 .0 ∙ length-take-le 1056 (clear .last .1 .0) (size .1))
-    (done .kept .1 .1 .1 .1 .1 .1 .0 ∙ length-take-le 4480 (clear .last .1 .1 .0) (size .2))
-    (done .ensures)
+    let done = c .before .before .before .before .before .before .before .before in
+    let large = done .before .before .before .before .before .before .before .before .before in
+    let clear = cleared large in
+    let size = fronts large in
+    ran-settled (large .if1 .taken) (clear .clear .ensures) (clear .before .before .before .before .before .before .before .before .before .args .mode) _ _ _
+    (done .settle .kept .1 .1 .1 .1 .0 ∙ size .0)
+    (done .settle .kept .1 .1 .1 .1 .1 .0 ∙ size .1)
+    (done .settle .kept .1 .1 .1 .1 .1 .1 .0 ∙ size .2)
+    (done .settle .ensures)
 
 same-length-11 : tie.Need-same-length-11
 same-length-11 c = search needs

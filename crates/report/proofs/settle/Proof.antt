@@ -16,9 +16,9 @@ enum-known-passed-2 c = search needs
 
 finish-requires : tie.Need-finish-requires
 finish-requires c κs =
-    let s = c .before .before .before .before .before .before .before .before .before .before .before .before .before .before .before .before .before .before .before .before .before .before .before .before .before in
-    let l = c .before .before .before .before .before .before .before .before .before .before .before .before .before .before .before .look .ensures in
-    (s .pre .0, (l .1 .0, rw (c .before .before .before .before .before .passed2 .given .1) at (l .0)))
+    let look = c .before .before .before .before .before .before .before .before .before .before .before .before .before .before .before in
+    let l = look .look .ensures in
+    (look .before .before .before .before .before .before .before .before .before .before .pre .0, (l .1 .0, rw (c .before .before .before .before .before .passed2 .given .1) at (l .0)))
 
 same-length : tie.Need-same-length
 same-length c = search needs
@@ -50,7 +50,9 @@ same-length-8 : tie.Need-same-length-8
 same-length-8 c = search needs
 
 returns-2 : tie.Need-returns-2
-returns-2 c = rw (c .before .before .before .before .before .before .before .before .before .before .before .before .before .before .before .before .before .before .before .before .before .before .before .before .look .ensures .1 .1) at (c .before .before .before .before .before .before .before .before .finish .ensures)
+returns-2 c =
+    let finish = c .before .before .before .before .before .before .before .before in
+    rw (finish .before .before .before .before .before .before .before .before .before .before .before .before .before .before .before .before .look .ensures .1 .1) at (finish .finish .ensures)
 
 pub settle-spec : {M : Type 1} → statement M
 settle-spec =

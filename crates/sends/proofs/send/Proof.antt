@@ -1,8 +1,7 @@
--- `sends::send` meets its contract: in each mode the letter that was written is the machine's.
+-- `sends::send` meets its contract: in each mode the letter is posted and counted so, and what is sent so follows the machine.
 -- Assumes nothing.
-use Rattle.room.specs.declared.Mode.the-variants.{Full, Short}
-use mathlib.Core.Path.{_≡_, refl}
-use Rattle.steps.proofs.SendFollows.{sent-follows-full, sent-follows-short}
+use mathlib.Core.Path.{refl}
+use Rattle.steps.proofs.SendFollows.{sent-follows}
 use borrow.Author.Needs.{needs}
 use Rattle.sends.proofs.send.Statement.{statement}
 use Rattle.sends.proofs.send.Tie as tie
@@ -30,13 +29,11 @@ same-length c = search needs
 
 returns : tie.Need-returns
 returns c =
-    let a = c .before .before .before .before .before .before .before .before .before .args in
     let P = c .before .before .post in
-    let mode : a .mode ≡ Full = c .before .before .before .before .enum-told .given .1 in
+    let mode = c .before .before .before .before .enum-told .given .1 in
     rw mode (
-      P .ensures .0,
-      sent-follows-full (a .nodes) (a .from .0) (a .to .0) (a .number .0) (a .slot) (a .counts .now) (a .words .now) (a .mail .now) _ _
-          (P .ensures .0) (same-length c) refl,
+      record { posted = P .ensures .0; counted = refl },
+      sent-follows (record { posted = P .ensures .0; counted = refl }) (same-length c),
     )
 
 same-length-2 : tie.Need-same-length-2
@@ -44,15 +41,14 @@ same-length-2 c = search needs
 
 returns-2 : tie.Need-returns-2
 returns-2 c =
-    let a = c .before .before .before .before .before .before .before .before .before .before .before .args in
     let P = c .before .before .post2 in
-    let mode : a .mode ≡ Short = c .before .before .before .before .before .before .enum-told2 .given .1 in
+    let mode = c .before .before .before .before .before .before .enum-told2 .given .1 in
     let word = c .before .before .before .before .only .ensures in
-    let sent = rw word at (P .ensures .0) in
+    let posted = rw word at (P .ensures .0) in
+    let counted = rw word at (P .ensures .1) in
     rw mode (
-      sent,
-      sent-follows-short (a .nodes) (a .from .0) (a .to .0) (a .number .0) (a .slot) (a .counts .now) (a .words .now) (a .mail .now) _ _
-          sent (same-length-2 c) (rw word at (P .ensures .1)),
+      record { posted = posted; counted = counted },
+      sent-follows (record { posted = posted; counted = counted }) (same-length-2 c),
     )
 
 pub send-spec : {M : Type 1} → statement M

@@ -52,20 +52,20 @@ add-place : tie.Need-add-place Inv-loop μ-loop
 add-place c = search needs
 
 sub-left : tie.Need-sub-left Inv-loop μ-loop
-sub-left c = omega (arith, c .before .before .before .loop-test .taken)
+sub-left c = omega arith
 
 loop-less : tie.Need-loop-less Inv-loop μ-loop
-loop-less c = omega (arith, c .before .before .before .loop-test .taken)
+loop-less c = omega arith
 
 loop-again : tie.Need-loop-again Inv-loop μ-loop
 loop-again c = let l = c .before .before .before .before .loop in
     let some = c .before .before .before .loop-test .taken in
-    (inside (c .before), omega (arith, l .inv .1), l .inv .2 ∙ causes-next _ _ _ _ some (fitting (c .before)))
+    (inside (c .before), omega arith, l .inv .2 ∙ causes-next _ _ _ _ some (fitting (c .before)))
 
 returns-2 : tie.Need-returns-2 Inv-loop μ-loop
 returns-2 c = let l = c .before .loop in
-    let none : l .left ≡ 0 = omega (arith, c .loop-test .left) in
-    let past : l .place ≡ c .before .before .before .args .at + 4 * c .before .before .before .args .count = omega (arith, l .inv .1) in
+    let none : l .left ≡ 0 = omega arith in
+    let past : l .place ≡ c .before .before .before .args .at + 4 * c .before .before .before .args .count = omega arith in
     sym (rw (l .inv .2, none, causes-none _ _ _) (ap Past (sym past)))
 
 pub causes-spec : {M : Type 1} → statement M

@@ -36,7 +36,7 @@ returns-2 : tie.Need-returns-2
 returns-2 c = sym (entry-low _ _ _ _ (there (c .before .before)) (c .if2 .taken))
 
 returns-3 : tie.Need-returns-3
-returns-3 c = sym (entry-high _ _ _ _ (there (c .before .before .before)) (omega (arith, c .before .if2 .left)) (c .if3 .taken))
+returns-3 c = sym (entry-high _ _ _ _ (there (c .before .before .before)) (omega arith) (c .if3 .taken))
 
 add-number-at : tie.Need-add-number-at
 add-number-at c = search needs
@@ -48,7 +48,7 @@ in-range-requires : tie.Need-in-range-requires
 in-range-requires c κs = search needs
 
 returns-4 : tie.Need-returns-4
-returns-4 c = c .in-range .ensures ∙ ap inRange (c .before .number-at .ensures) ∙ sym (entry-number _ _ _ _ (there (c .before .before .before .before .before)) (omega (arith, c .before .before .before .if2 .left)) (omega (arith, c .before .before .if3 .left)))
+returns-4 c = c .in-range .ensures ∙ ap inRange (c .before .number-at .ensures) ∙ sym (entry-number _ _ _ _ (there (c .before .before .before .before .before)) (omega arith) (omega arith))
 
 pub entry-fits-spec : {M : Type 1} → statement M
 entry-fits-spec =

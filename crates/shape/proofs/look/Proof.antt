@@ -22,7 +22,7 @@ whole-requires : tie.Need-whole-requires
 whole-requires c κs = search needs
 
 returns-2 : tie.Need-returns-2
-returns-2 c = seen-headless _ _ (omega (arith, c .before .before .if1 .left)) (head-missing _ _ (sym (c .before .whole .ensures) ∙ not-true _ (c .if2 .taken)))
+returns-2 c = seen-headless _ _ (omega arith) (head-missing _ _ (sym (c .before .whole .ensures) ∙ not-true _ (c .if2 .taken)))
 
 -- the head is whole
 whole-there : (c : tie.Else2) → let a = c .before .before .before .before .args in wholeAt 0x21 5 (a .report .now) (a .at) ≡ true
@@ -35,7 +35,7 @@ mark-fits-requires : tie.Need-mark-fits-requires
 mark-fits-requires c κs = search needs
 
 returns-3 : tie.Need-returns-3
-returns-3 c = seen-headless _ _ (omega (arith, c .before .before .before .before .before .if1 .left)) (head-mark _ _ (whole-there (c .before .before .before)) ∙ rw (← c .before .before .named .ensures) (sym (c .before .mark-fits .ensures) ∙ not-true _ (c .if3 .taken)))
+returns-3 c = seen-headless _ _ (omega arith) (head-mark _ _ (whole-there (c .before .before .before)) ∙ rw (← c .before .before .named .ensures) (sym (c .before .mark-fits .ensures) ∙ not-true _ (c .if3 .taken)))
 
 -- and of a mark that fits
 headed : (c : tie.Else3) → let a = c .before .before .before .before .before .before .before .args in headFits (a .report .now) (a .at) ≡ true
@@ -52,10 +52,10 @@ enum-told c = search needs
 
 returns-4 : tie.Need-returns-4
 returns-4 c = ap (λ (m : Mark). Good m (c .before .past .given .0 .0)) (c .before .before .before .before .before .before .named .ensures)
-    ∙ seen-good _ _ (omega (arith, c .before .before .before .before .before .before .before .before .before .if1 .left)) (headed (c .before .before .before .before)) _ (sym (c .before .before .before .body .ensures) ∙ c .before .past .given .1)
+    ∙ seen-good _ _ (omega arith) (headed (c .before .before .before .before)) _ (sym (c .before .before .before .body .ensures) ∙ c .before .past .given .1)
 
 returns-5 : tie.Need-returns-5
-returns-5 c = seen-bad _ _ (omega (arith, c .before .before .before .before .before .before .before .before .if1 .left)) (headed (c .before .before .before)) (sym (c .before .before .body .ensures) ∙ c .enum-told .given .1)
+returns-5 c = seen-bad _ _ (omega arith) (headed (c .before .before .before)) (sym (c .before .before .body .ensures) ∙ c .enum-told .given .1)
 
 pub look-spec : {M : Type 1} → statement M
 look-spec =

@@ -14,7 +14,7 @@ in-range-requires : tie.Need-in-range-requires
 in-range-requires c κs = search needs
 
 returns-2 : tie.Need-returns-2
-returns-2 c = c .in-range .ensures ∙ sym (mark-low _ (omega (arith, c .before .if1 .left)))
+returns-2 c = c .in-range .ensures ∙ sym (mark-low _ (omega arith))
 
 pub mark-fits-spec : {M : Type 1} → statement M
 mark-fits-spec = tie.close (tie.spec returns in-range-requires returns-2)

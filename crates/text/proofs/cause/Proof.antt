@@ -1,7 +1,7 @@
 -- `text::cause` meets its contract: the name is laid behind the space.
 -- Assumes nothing.
 use native.Mathlib.Omega.{arith}
-use Rattle.words.proofs.Laying.{and-then}
+use Rattle.groups.proofs.Laying.{and-then}
 use borrow.Author.Needs.{needs}
 use Rattle.text.proofs.cause.Statement.{statement}
 use Rattle.text.proofs.cause.Tie as tie
@@ -22,7 +22,7 @@ returns : tie.Need-returns
 returns c =
     let space = c .before .before .before .before .before .before .word in
     let named = c .before .before .name in
-    (and-then (space .ensures) (named .ensures .0), omega (arith, space .ensures .past-is, named .ensures .1))
+    (and-then (space .ensures) (named .ensures .0), omega arith)
 
 pub cause-spec : {M : Type 1} → statement M
 cause-spec =

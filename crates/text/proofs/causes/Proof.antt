@@ -41,9 +41,9 @@ loop-again c =
     let l = c .before .before .before .before .before .loop in
     let laid = c .before .before .cause in
     let more = c .before .before .before .before .loop-test .taken in (
-      omega (arith, l .inv .0, more),
+      omega arith,
       laid .kept .1 .1 .1 .0 ∙ l .inv .1,
-      omega (arith, l .inv .2, laid .ensures .1, more),
+      omega arith,
       owing-less _ _ (causes-first _ _ _ more) (l .inv .3) (laid .ensures .0),
     )
 

@@ -4,7 +4,7 @@ use Prim.Native.Nat.{_≤_}
 use native.Mathlib.Omega.{arith}
 use lib.ListN.{length}
 use Rattle.words.specs.Words.{decimal}
-use Rattle.words.proofs.Laying.{and-then}
+use Rattle.groups.proofs.Laying.{and-then}
 use Rattle.words.proofs.Decimals.{short-decimal}
 use borrow.Author.Needs.{needs}
 use Rattle.text.proofs.count.Statement.{statement}
@@ -21,7 +21,7 @@ word-requires : tie.Need-word-requires
 word-requires c κs = search needs
 
 number-requires : tie.Need-number-requires
-number-requires c κs = omega (arith, few (c .before .before .before .before .before .before .before), c .before .before .before .word .ensures .past-is, c .before .before .before .word .kept .1 .1 .0)
+number-requires c κs = omega (arith, few (c .before .before .before .before .before .before .before))
 
 same-length : tie.Need-same-length
 same-length c = search needs
@@ -30,7 +30,7 @@ returns : tie.Need-returns
 returns c =
     let space = c .before .before .before .before .before .before .word in
     let digits = c .before .before .number in
-    (and-then (space .ensures) (digits .ensures), omega (arith, few (c .before .before .before .before .before .before .before .before .before .before), space .ensures .past-is, digits .ensures .past-is))
+    (and-then (space .ensures) (digits .ensures), omega (arith, few (c .before .before .before .before .before .before .before .before .before .before)))
 
 pub count-spec : {M : Type 1} → statement M
 count-spec =

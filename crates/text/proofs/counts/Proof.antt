@@ -5,7 +5,7 @@ use Prim.Native.Nat.{_+_, _*_, _-_, _≤_}
 use native.Mathlib.Nat.{le-antisymm}
 use native.Mathlib.Omega.{arith}
 use lib.ListN.{length}
-use Rattle.words.specs.Words.{Laid}
+use Rattle.groups.specs.Groups.{Laid}
 use Rattle.reading.specs.Reading.{stampPlace, stampAt}
 use Rattle.reading.proofs.Standing.{past-inside, place-none, place-more}
 use Rattle.text.specs.Text.{stampText}
@@ -33,9 +33,6 @@ count-at-requires c κs = search needs
 count-requires : tie.Need-count-requires Inv-loop μ-loop
 count-requires c κs = search needs
 
-past-count-requires : tie.Need-past-count-requires Inv-loop μ-loop
-past-count-requires c κs = search needs
-
 add-k : tie.Need-add-k Inv-loop μ-loop
 add-k c = search needs
 
@@ -44,16 +41,16 @@ loop-less c = omega arith
 
 loop-again : tie.Need-loop-again Inv-loop μ-loop
 loop-again c =
-    let s = c .before .before .before .before .before .before .before .before .before .before in
-    let l = c .before .before .before .before .before .before .before .loop in
-    let laid = c .before .before .before .count in
-    let past = c .past-count .ensures in (
+    let s = c .before .before .before .before .before .before .before .before .before in
+    let l = c .before .before .before .before .before .before .loop in
+    let found = c .before .before .before .before .count-at .ensures in
+    let laid = c .before .before .count in (
       search needs,
-      rw past (past-inside _ _ _ (l .inv .1)),
-      past ∙ place-more _ _ _ _ (l .inv .2),
+      rw (found .1) (past-inside _ _ _ (l .inv .1)),
+      found .1 ∙ place-more _ _ _ _ (l .inv .2),
       laid .kept .1 .1 .0 ∙ l .inv .3,
       omega (arith, laid .ensures .1),
-      stamp-more (s .args .report .now) (s .args .place) (s .args .at) (s .args .room .now) _ _ _ _ _ _ _ (l .inv .2) (c .before .before .before .before .before .count-at .ensures) (l .inv .5) (laid .ensures .0),
+      stamp-more (s .args .report .now) (s .args .place) (s .args .at) (s .args .room .now) _ _ _ _ _ _ _ (l .inv .2) (found .0) (l .inv .5) (laid .ensures .0),
     )
 
 same-length : tie.Need-same-length Inv-loop μ-loop
@@ -74,7 +71,6 @@ counts-spec =
     loop-holds
     count-at-requires
     count-requires
-    past-count-requires
     add-k
     loop-less
     loop-again

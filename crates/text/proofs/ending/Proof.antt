@@ -1,6 +1,6 @@
 -- `text::ending` meets its contract: the line ends behind the direct predecessors.
 -- Assumes nothing.
-use Rattle.words.proofs.Laying.{and-then}
+use Rattle.groups.proofs.Laying.{and-then}
 use Rattle.text.specs.Text.{fromPart}
 use borrow.Author.Needs.{needs}
 use Rattle.text.proofs.ending.Statement.{statement}

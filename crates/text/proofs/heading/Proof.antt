@@ -1,7 +1,7 @@
 -- `text::heading` meets its contract: the name lies behind the word.
 -- Assumes nothing.
 use native.Mathlib.Omega.{arith}
-use Rattle.words.proofs.Laying.{and-then}
+use Rattle.groups.proofs.Laying.{and-then}
 use Rattle.text.specs.Text.{markPart}
 use borrow.Author.Needs.{needs}
 use Rattle.text.proofs.heading.Statement.{statement}
@@ -24,7 +24,7 @@ unfolding markPart
 returns c =
     let named = c .before .before .name in
     let word = c .before .before .before .before .before .before .word in
-    (and-then (word .ensures) (named .ensures .0), omega (arith, word .ensures .past-is, named .ensures .1))
+    (and-then (word .ensures) (named .ensures .0), omega arith)
 
 pub heading-spec : {M : Type 1} → statement M
 heading-spec =

@@ -3,7 +3,7 @@
 use Prim.Native.Nat.{_+_, _*_, _≤_}
 use native.Mathlib.Omega.{arith}
 use lib.ListN.{length}
-use Rattle.words.proofs.Laying.{and-then}
+use Rattle.groups.proofs.Laying.{and-then}
 use Rattle.reading.specs.Reading.{answerAt}
 use Rattle.shape.specs.Shape.{pastGroup}
 use Rattle.shape.proofs.FittingGroup.{group-parts, group-inside}
@@ -13,7 +13,7 @@ use Rattle.text.proofs.lay_mark.Statement.{statement}
 use Rattle.text.proofs.lay_mark.Tie as tie
 
 -- the group lies within the report
-within : (c : tie.Start) → let a = c .args in (a .mark + 5 ≤ length (a .report .now)) × (a .causes + 4 * a .count ≤ length (a .report .now))
+within : (c : tie.Start) → let a = c .args in (a .place + 5 ≤ length (a .report .now)) × (a .causes + 4 * a .count ≤ length (a .report .now))
 unfolding pastGroup
 within c = let (long, inside) = group-inside _ _ (c .pre .0 .0) in rw (c .pre .1 .0, c .pre .1 .1) (omega arith, inside)
 
@@ -24,16 +24,10 @@ add-stamp : tie.Need-add-stamp
 add-stamp c = omega (arith, within (c .before .before .before .before .before .before))
 
 stamp-requires : tie.Need-stamp-requires
-stamp-requires c κs =
-    let s = c .before .before .before .before .before .before .before in
-    omega (arith, within s, c .before .before .before .heading .ensures .1, c .before .before .before .heading .kept .1 .1 .0, s .pre .0)
+stamp-requires c κs = omega (arith, within (c .before .before .before .before .before .before .before))
 
 ending-requires : tie.Need-ending-requires
-ending-requires c κs =
-    let s = c .before .before .before .before .before .before .before .before .before .before .before in
-    let head = c .before .before .before .before .before .before .before .heading in
-    let stamped = c .before .before .before .stamp in
-    omega (arith, within s, head .ensures .1, head .kept .1 .1 .0, stamped .ensures .1, stamped .kept .1 .1 .1 .1 .0, s .pre)
+ending-requires c κs = omega (arith, within (c .before .before .before .before .before .before .before .before .before .before .before))
 
 same-length : tie.Need-same-length
 same-length c = search needs
@@ -41,10 +35,12 @@ same-length c = search needs
 returns : tie.Need-returns
 unfolding answerAt lineOf
 returns c =
-    let s = c .before .before .before .before .before .before .before .before .before .before .before .before .before .before in
+    let stamp = c .before .before .before .before .before .before in
+    let head = stamp .before .before .before .before in
+    let s = head .before .before .before .before in
     let last = c .before .before .ending .ensures in
     rw (group-parts (s .pre .0 .0) .own-count)
-    (and-then (and-then (c .before .before .before .before .before .before .before .before .before .before .heading .ensures .0) (c .before .before .before .before .before .before .stamp .ensures .0)) (rw (s .pre .1 .0, s .pre .1 .1) at last))
+    (and-then (and-then (head .heading .ensures .0) (stamp .stamp .ensures .0)) (rw (s .pre .1 .0, s .pre .1 .1) at last))
 
 pub lay-mark-spec : {M : Type 1} → statement M
 lay-mark-spec =

@@ -22,16 +22,16 @@ enum-told c = search needs
 enum-told-2 : tie.Need-enum-told-2
 enum-told-2 c = search needs
 
-enum-known-mark : tie.Need-enum-known-mark
-enum-known-mark c = search needs
+enum-known-past : tie.Need-enum-known-past
+enum-known-past c = search needs
 
 -- the group that stands at the place, and where it ends
 there : (c : tie.After-known-told) → let a = c .before .before .before .before .before .args in
-    (groupFits (a .report .now) (a .at) ≡ true) × (c .before .mark .given .0 .1 .0 ≡ pastGroup (a .report .now) (a .at))
-there c = let (fits, _, past) = look-good _ _ _ _ (sym (c .before .before .before .group .ensures) ∙ c .before .mark .given .1) in (fits, past)
+    (groupFits (a .report .now) (a .place) ≡ true) × (c .before .past .given .0 .1 .0 ≡ pastGroup (a .report .now) (a .place))
+there c = let (fits, _, past) = look-good _ _ _ _ (sym (c .before .before .before .group .ensures) ∙ c .before .past .given .1) in (fits, past)
 
 -- it lies within the report
-inside : (c : tie.After-known-told) → let a = c .before .before .before .before .before .args in a .at + 9 ≤ length (a .report .now)
+inside : (c : tie.After-known-told) → let a = c .before .before .before .before .before .args in a .place + 9 ≤ length (a .report .now)
 inside c = omega (arith, group-inside _ _ (there c .0))
 
 returns : tie.Need-returns
@@ -44,10 +44,10 @@ shared-slice-read-count : tie.Need-shared-slice-read-count
 shared-slice-read-count c = omega (arith, inside (c .before .before))
 
 cast-count : tie.Need-cast-count
-cast-count c = omega (arith, c .shared-slice-known2 .given (c .before .before .before .before .before .before .before .args .at + 4))
+cast-count c = omega (arith, c .shared-slice-known2 .given (c .before .before .before .before .before .before .before .args .place + 4))
 
 mul-causes : tie.Need-mul-causes
-mul-causes c = omega (arith, c .shared-slice-known2 .given (c .before .before .before .before .before .before .before .args .at + 4))
+mul-causes c = omega (arith, c .shared-slice-known2 .given (c .before .before .before .before .before .before .before .args .place + 4))
 
 sub-causes : tie.Need-sub-causes
 unfolding pastGroup
@@ -56,9 +56,9 @@ sub-causes c = omega (arith, there (c .before .before) .1)
 lay-mark-requires : tie.Need-lay-mark-requires
 unfolding pastGroup
 lay-mark-requires c κs =
-    let small = c .before .shared-slice-known2 .given (c .before .before .before .before .before .before .before .before .args .at + 4) in
+    let small = c .before .shared-slice-known2 .given (c .before .before .before .before .before .before .before .before .args .place + 4) in
     let (fits, past) = there (c .before .before .before) in
-    ((fits, c .before .before .if1 .left, search needs), (omega (arith, past), refl, omega (arith, small)))
+    ((fits, c .before .before .if1 .left, search needs), (omega arith, refl, omega arith))
 
 returns-2 : tie.Need-returns-2
 returns-2 c = (sym (line-end _ _ _ _ (look-end _ _ (sym (c .before .before .group .ensures) ∙ c .enum-told .given .1))), λ size past e. unwritten-end e)
@@ -80,7 +80,7 @@ mark-line-spec =
     group-requires
     enum-told
     enum-told-2
-    enum-known-mark
+    enum-known-past
     returns
     add-count
     shared-slice-read-count

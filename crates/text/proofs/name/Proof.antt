@@ -21,7 +21,7 @@ few-node : (c : tie.After-shared-slice-known2) → length (decimal (getD (c .bef
 few-node c = short-decimal _ (omega (arith, c .shared-slice-known2 .given (c .before .before .before .args .place + 1)))
 
 few-number : (c : tie.After-number-at) → length (decimal (c .number-at .result)) ≤ 5
-few-number c = short-decimal _ (omega (arith, c .number-at .ok))
+few-number c = short-decimal _ (omega arith)
 
 cast-node : tie.Need-cast-node
 cast-node c = omega (arith, c .shared-slice-known2 .given (c .before .before .before .args .place + 1))
@@ -42,33 +42,23 @@ slice-aggregate-word : tie.Need-slice-aggregate-word
 slice-aggregate-word c = search needs
 
 word-requires : tie.Need-word-requires
-word-requires c κs = omega (arith, few-node (c .before .before .before .before .before .before .before), c .before .before .before .before .number .ensures .past-is, c .before .before .before .before .number .kept .1 .1 .0)
+word-requires c κs = omega (arith, few-node (c .before .before .before .before .before .before .before))
 
 number-requires-2 : tie.Need-number-requires-2
 number-requires-2 c κs =
-    let dot = c .before .before .before .word in
-    let node = c .before .before .before .before .before .before .before .before .number in
-    omega (
-      arith,
-      few-node (c .before .before .before .before .before .before .before .before .before .before .before),
-      few-number (c .before .before .before .before .before .before .before .before .before .before),
-      node .ensures .past-is,
-      node .kept .1 .1 .0,
-      dot .ensures .past-is,
-      dot .kept .1 .1 .0,
-    )
+    let read = c .before .before .before .before .before .before .before .before .before .before in
+    omega (arith, few-node (read .before), few-number read)
 
 same-length : tie.Need-same-length
 same-length c = search needs
 
 returns : tie.Need-returns
 returns c =
-    let number = c .before .before .number2 in
-    let dot = c .before .before .before .before .before .before .word in
-    let node = c .before .before .before .before .before .before .before .before .before .before .before .number in
-    let read = c .before .before .before .before .before .before .before .before .before .before .before .before .before in (
-      name-laid _ _ (read .number-at .ensures) (node .ensures) (dot .ensures) (number .ensures),
-      omega (arith, few-node (read .before), few-number read, node .ensures .past-is, dot .ensures .past-is, number .ensures .past-is),
+    let dot = c .before .before .before .before .before .before in
+    let node = dot .before .before .before .before .before in
+    let read = node .before .before in (
+      name-laid _ _ (read .number-at .ensures) (node .number .ensures) (dot .word .ensures) (c .before .before .number2 .ensures),
+      omega (arith, few-node (read .before), few-number read),
     )
 
 pub name-spec : {M : Type 1} → statement M

@@ -17,7 +17,7 @@ same-length c = search needs
 
 returns : tie.Need-returns
 returns c =
-    (rw (nearest-none _ _ _ (c .before .before .before .before .before .if1 .taken)) (c .before .before .word .ensures), omega (arith, c .before .before .word .ensures .past-is))
+    (rw (nearest-none _ _ _ (c .before .before .before .before .before .if1 .taken)) (c .before .before .word .ensures), omega arith)
 
 causes-requires : tie.Need-causes-requires
 causes-requires c κs = search needs
@@ -27,7 +27,7 @@ same-length-2 c = search needs
 
 returns-2 : tie.Need-returns-2
 returns-2 c =
-    (rw (nearest-some _ _ _ (c .before .before .before .before .if1 .left)) (c .before .before .causes .ensures .0), omega (arith, c .before .before .causes .ensures .1))
+    (rw (nearest-some _ _ _ (c .before .before .before .before .if1 .left)) (c .before .before .causes .ensures .0), omega arith)
 
 pub nearest-spec : {M : Type 1} → statement M
 nearest-spec =

@@ -1,7 +1,7 @@
 -- `text::stamp` meets its contract: the counts lie behind the word.
 -- Assumes nothing.
 use native.Mathlib.Omega.{arith}
-use Rattle.words.proofs.Laying.{and-then}
+use Rattle.groups.proofs.Laying.{and-then}
 use Rattle.text.specs.Text.{stampPart}
 use borrow.Author.Needs.{needs}
 use Rattle.text.proofs.stamp.Statement.{statement}
@@ -24,7 +24,7 @@ unfolding stampPart
 returns c =
     let counted = c .before .before .counts in
     let word = c .before .before .before .before .before .before .word in
-    (and-then (word .ensures) (counted .ensures .0), omega (arith, word .ensures .past-is, counted .ensures .1))
+    (and-then (word .ensures) (counted .ensures .0), omega arith)
 
 pub stamp-spec : {M : Type 1} → statement M
 stamp-spec =

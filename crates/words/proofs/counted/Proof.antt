@@ -5,7 +5,7 @@ use native.Mathlib.Omega.{arith}
 use lib.ListN.{length}
 use borrow.Author.Needs.{needs}
 use Rattle.words.specs.Words.{decimal}
-use Rattle.words.proofs.Laying.{and-then}
+use Rattle.groups.proofs.Laying.{and-then}
 use Rattle.words.proofs.Decimals.{long-decimal}
 use Rattle.words.proofs.counted.Statement.{statement}
 use Rattle.words.proofs.counted.Tie as tie
@@ -19,8 +19,7 @@ number-requires c κs = omega (arith, few (c .before .before .before))
 
 word-requires : tie.Need-word-requires
 word-requires c κs =
-    let first = c .before .before .before .number in
-    omega (arith, few (c .before .before .before .before .before .before .before), first .ensures .past-is, first .kept .1 .1 .0)
+    omega (arith, few (c .before .before .before .before .before .before .before))
 
 same-length : tie.Need-same-length
 same-length c = search needs
@@ -30,7 +29,7 @@ returns c =
     let first = c .before .before .before .before .before .before .number in
     let second = c .before .before .word in (
       and-then (first .ensures) (second .ensures),
-      omega (arith, few (c .before .before .before .before .before .before .before .before .before .before), first .ensures .past-is, second .ensures .past-is),
+      omega (arith, few (c .before .before .before .before .before .before .before .before .before .before)),
     )
 
 pub counted-spec : {M : Type 1} → statement M

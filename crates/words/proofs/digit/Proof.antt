@@ -3,7 +3,7 @@
 use borrow.Author.Needs.{needs}
 use Rattle.words.proofs.digit.Statement.{statement}
 use Rattle.words.proofs.digit.Tie as tie
-use Rattle.words.proofs.Laying.{one-laid}
+use Rattle.groups.proofs.Laying.{one-laid}
 
 cast-room : tie.Need-cast-room
 cast-room c = search needs

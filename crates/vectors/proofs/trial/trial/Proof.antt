@@ -42,23 +42,23 @@ answer-requires c κs = search needs
 
 slice-aggregate-say-left : tie.Need-slice-aggregate-say-left
 slice-aggregate-say-left c =
-    let run = c .before .before .before .before .before .before .run in
-    sym (length-front (replicate 1040 42405) (run .last .1 .1 .0) (c .before .before .before .before .before .before .before .before .before .before .before .before .before .args .counts) (run .kept .1 .1 .0))
+    let run = c .before .before .before .before .before .before in
+    sym (length-front (replicate 1040 42405) (run .run .last .1 .1 .0) (run .before .before .before .before .before .before .before .args .counts) (run .run .kept .1 .1 .0))
 
 slice-aggregate-say-left-2 : tie.Need-slice-aggregate-say-left-2
 slice-aggregate-say-left-2 c =
-    let run = c .before .before .before .before .before .before .before .run in
-    sym (length-front (replicate 1072 2779096485) (run .last .1 .1 .1 .0) (c .before .before .before .before .before .before .before .before .before .before .before .before .before .before .args .words) (run .kept .1 .1 .1 .0))
+    let run = c .before .before .before .before .before .before .before in
+    sym (length-front (replicate 1072 2779096485) (run .run .last .1 .1 .1 .0) (run .before .before .before .before .before .before .before .args .words) (run .run .kept .1 .1 .1 .0))
 
 slice-aggregate-say-left-3 : tie.Need-slice-aggregate-say-left-3
 slice-aggregate-say-left-3 c =
-    let run = c .before .before .before .before .before .before .before .before .run in
-    sym (length-front (replicate 4496 42405) (run .last .1 .1 .1 .1 .0) (c .before .before .before .before .before .before .before .before .before .before .before .before .before .before .before .args .mail) (run .kept .1 .1 .1 .1 .0))
+    let run = c .before .before .before .before .before .before .before .before in
+    sym (length-front (replicate 4496 42405) (run .run .last .1 .1 .1 .1 .0) (run .before .before .before .before .before .before .before .args .mail) (run .run .kept .1 .1 .1 .1 .0))
 
 slice-aggregate-say-left-4 : tie.Need-slice-aggregate-say-left-4
 slice-aggregate-say-left-4 c =
-    let run = c .before .before .before .before .before .before .before .before .before .run in
-    sym (length-front (replicate 16400 165) (run .last .1 .1 .1 .1 .1 .0) (c .before .before .before .before .before .before .before .before .before .before .before .before .before .before .before .before .args .report) (run .kept .1 .1 .1 .1 .1 .0))
+    let run = c .before .before .before .before .before .before .before .before .before in
+    sym (length-front (replicate 16400 165) (run .run .last .1 .1 .1 .1 .1 .0) (run .before .before .before .before .before .before .before .args .report) (run .run .kept .1 .1 .1 .1 .1 .0))
 
 say-left-requires : tie.Need-say-left-requires
 say-left-requires c κs = search needs

@@ -1,0 +1,2 @@
+mod Naming
+pub mod OneResult

@@ -57,6 +57,10 @@ impl Rooms {
         for node in 0..log.nodes {
             self.write_node(log.nodes, node, order, letters);
         }
+        self.write_letters(log, letters);
+    }
+
+    fn write_letters(&mut self, log: &Log, letters: &Letters) {
         for (message, slot) in slots(&log.messages).into_iter().enumerate() {
             if log.messages[message].received.is_none() {
                 self.write_letter(slot, &log.messages[message], &letters.letters[message]);
@@ -94,13 +98,18 @@ impl Rooms {
 fn slots(messages: &[Message]) -> Vec<usize> {
     let mut slots: Vec<usize> = Vec::with_capacity(messages.len());
     for message in messages {
-        let mut taken = 0u128;
-        for (earlier, slot) in messages.iter().zip(&slots) {
-            let in_flight = earlier.received.is_none_or(|event| event > message.sent);
-            taken |= u128::from(in_flight) << slot;
-        }
-        slots.push(taken.trailing_ones() as usize);
+        slots.push(lowest_free(&slots, messages, message.sent));
     }
     assert!(slots.iter().all(|&slot| slot < MOST_IN_FLIGHT));
     slots
+}
+
+/// The lowest slot that no message in flight at an event has, by the slots of the first messages.
+fn lowest_free(slots: &[usize], messages: &[Message], event: usize) -> usize {
+    let mut taken = 0u128;
+    for (message, slot) in messages.iter().zip(slots) {
+        let in_flight = message.received.is_none_or(|receipt| receipt > event);
+        taken |= u128::from(in_flight) << slot;
+    }
+    taken.trailing_ones() as usize
 }

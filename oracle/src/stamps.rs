@@ -1,6 +1,6 @@
 //! The reader of a report: the stamp of each of its marks, or its first bad group.
 
-use crate::groups::{Group, Name, DIRECT, HEAD, STAMP};
+use crate::groups::{Count, Group, Name, DIRECT, HEAD, STAMP};
 use crate::reader::MOST_NODES;
 use std::collections::BTreeMap;
 
@@ -85,23 +85,33 @@ fn split(report: &[u8]) -> Result<(Group, &[u8]), Rule> {
     let [_, node, low, high, announced, rest @ ..] = report else {
         return Err(Rule::Head);
     };
-    let mut group = Group {
+    let (stamp, rest) = split_stamp(rest).ok_or(Rule::Stamp)?;
+    let (direct, rest) = split_direct(rest, *announced).ok_or(Rule::Announced)?;
+    let group = Group {
         name: (*node, u16::from_le_bytes([*low, *high])),
         announced: *announced,
-        stamp: Vec::new(),
-        direct: Vec::new(),
+        stamp,
+        direct,
     };
-    let mut rest = rest;
-    while rest.first() == Some(&STAMP) {
-        group
-            .stamp
-            .push(record(&mut rest, STAMP).ok_or(Rule::Stamp)?);
-    }
-    for _ in 0..*announced {
-        let name = record(&mut rest, DIRECT).ok_or(Rule::Announced)?;
-        group.direct.push(name);
-    }
     Ok((group, rest))
+}
+
+/// Splits off all 0x22 records at the front, if each is whole.
+fn split_stamp(mut rest: &[u8]) -> Option<(Vec<Count>, &[u8])> {
+    let mut stamp = Vec::new();
+    while rest.first() == Some(&STAMP) {
+        stamp.push(record(&mut rest, STAMP)?);
+    }
+    Some((stamp, rest))
+}
+
+/// Splits off as many 0x23 records as are announced, if so many are there.
+fn split_direct(mut rest: &[u8], announced: u8) -> Option<(Vec<Name>, &[u8])> {
+    let mut direct = Vec::new();
+    for _ in 0..announced {
+        direct.push(record(&mut rest, DIRECT)?);
+    }
+    Some((direct, rest))
 }
 
 /// Takes a record of this kind and four bytes off the front.

@@ -7,21 +7,28 @@ use crate::reader::{self, Act, Log};
 use crate::relation::{self, Relation};
 use crate::report;
 
-/// For each event those before it: the closure of "directly precedes", by trying all between.
-fn closure(log: &Log) -> Vec<Vec<bool>> {
+/// Which event directly precedes which: the next of its node, and the receipt of a send.
+fn links(log: &Log) -> Vec<Vec<bool>> {
     let events = log.events.len();
-    let mut before = vec![vec![false; events]; events];
+    let mut links = vec![vec![false; events]; events];
     for (a, event) in log.events.iter().enumerate() {
         let same_node = |b: &usize| log.events[*b].node == event.node;
-        if let Some(next) = (a + 1..events).find(same_node) {
-            before[a][next] = true;
-        }
+        let next = (a + 1..events).find(same_node);
+        let receipt = match event.act {
+            Act::Send(message) => log.messages[message].received,
+            _ => None,
+        };
+        next.into_iter()
+            .chain(receipt)
+            .for_each(|b| links[a][b] = true);
     }
-    for message in &log.messages {
-        if let Some(receipt) = message.received {
-            before[message.sent][receipt] = true;
-        }
-    }
+    links
+}
+
+/// Which event is before which: the closure of "directly precedes", by trying all between.
+fn closure(log: &Log) -> Vec<Vec<bool>> {
+    let events = log.events.len();
+    let mut before = links(log);
     for between in 0..events {
         for a in 0..events {
             for b in 0..events {

@@ -1,5 +1,4 @@
 pub mod Walked
 pub mod Marks
 pub mod Walking
-pub mod Told
 pub mod Samples

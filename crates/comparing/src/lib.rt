@@ -54,8 +54,8 @@ fn weigh(report: &[u8], first: usize, second: usize) -> Compared
     let mut less = false;
     let mut k: usize = 0;
     while k < 32 {
-        let a = view::count(report, one, k);
-        let b = view::count(report, other, k);
+        let a = reading::count_at(report, one, k);
+        let b = reading::count_at(report, other, k);
         if a.count > b.count {
             more = true;
         }

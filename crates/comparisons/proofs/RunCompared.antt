@@ -22,7 +22,7 @@ use Rattle.passes.specs.Report.{report_of, tally_of}
 use Rattle.report.specs.Run.{totals_of, Ran}
 use Rattle.report.specs.Run as told
 use Rattle.demands.proofs.Refusals.{laid_front, run_with}
-use Rattle.demands.proofs.ListedMarks.{answers_right, reports_told}
+use Rattle.demands.proofs.ListedMarks.{answers_right}
 use Rattle.demands.proofs.Arrows.{report_only}
 use Rattle.shape.specs.declared.Mark.{Mark}
 use Rattle.checking.specs.WellFormed.{WellFormed}
@@ -41,7 +41,7 @@ module _ {mode : Mode} {log counts words mail report counts' words' mail' report
   left : own_report r report' ≡ report_of n cut
   unfolding report_of
   left =
-      let (is, size) = report_only ran here row (reports_told (answers_right lawful.sound)) in
+      let (is, size) = report_only ran here row (answers_right lawful.sound) in
       rw (size, is) (laid_front (groups_of n (answers n full cut)) report)
 
   -- the total of marks is the number of their answers

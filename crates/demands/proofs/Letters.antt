@@ -1,38 +1,33 @@
--- What lies in the mail after a run that is accepted: the messages in flight, each in one slot with the letter of its send, and zero in
--- every other slot, since the slots have just what is in flight and a letter in flight is the one that was sent.
+-- What lies in the mail after a run that is accepted: just the messages in flight, the room of every other is zero; and, with short
+-- messages, demand 3's sentence of each: it carries a count exactly if it is due.
 -- Assumes nothing.
 use mathlib.Core.Path.{◌≡◌, refl, sym, ◌∙◌, ap}
 use mathlib.Core.Logic.{◌⊎◌, inl, inr, ◌↔◌}
-use mathlib.Core.Bool.{Bool}
+use mathlib.Core.Bool.{Bool, true, false, cond}
 use mathlib.Core.Option.{none, some}
 use mathlib.Core.List.{List, [], ◌∷◌, ◌++◌}
-use Prim.Native.Nat.{ℕ, suc, ◌+◌, ◌*◌, ◌<◌, ◌≤◌}
+use Prim.Native.Nat.{ℕ, suc, ◌+◌, ◌*◌, ◌<◌}
 use native.Mathlib.Omega.{arith}
 use lib.ListN.{length, get_or}
 use lib.Seq.{get_or-take}
-use borrow.Author.Tests.{lt-ltb, le-ltb}
-use Rattle.order.specs.Order.{Event, send, Flying, flying_head, flying_tail}
+use borrow.Author.Tests.{lt-ltb}
+use Rattle.order.specs.Order.{Event, send, Flying, flying_head, flying_tail, Sound}
 use Rattle.order.specs.Flight.{Message}
 use Rattle.order.proofs.Flight.{message}
 use Rattle.verdict.proofs.Accepted.{row_lawful}
-use Rattle.machine.specs.Machine.{full}
+use Rattle.machine.specs.Machine.{Entry, absent, present}
 use Rattle.machine.specs.Short.{columns}
 use Rattle.machine.specs.History.{Due}
+use Rattle.machine.proofs.ShortMessages.{flight_exactly}
 use Rattle.cells.specs.Cells.{code_of}
 use Rattle.room.specs.declared.Mode.{Mode}
-use Rattle.room.specs.declared.Mode.TheVariants.{Full, Short}
+use Rattle.room.specs.declared.Mode.TheVariants.{Short}
 use Rattle.room.specs.Slots.{Slot, slot_at, slots}
 use Rattle.room.specs.Room.{barn, element}
-use Rattle.room.proofs.Slots.{slot_flies, slot_once}
+use Rattle.room.proofs.Slots.{slot_flies}
 use Rattle.room.proofs.LawfulSlots.{flying_lies}
 use Rattle.report.specs.declared.Answer.{Answer}
-use Rattle.demands.specs.Demands.{Completed, Lies, element_of, entry_at, Element, Posted}
-use Rattle.demands.proofs.Elements.{element_of_lem, element_full, element_due, flight_holds, past_sound}
-
--- a message in flight was sent at its place
-flying_parts : {m i j p : ℕ} {cut : List Event} → Flying m i j cut p → (later past : List Event) × (cut ≡ later ++ (send i j m ∷ past)) × (p ≡ length past)
-flying_parts (flying_head {past = past}) = ([], past, refl, refl)
-flying_parts (flying_tail {e = e} h flies) = let (later, past, parts, place) = flying_parts flies in (e ∷ later, past, ap (λ l. e ∷ l) parts, place)
+use Rattle.demands.specs.Demands.{Completed, Lies, EntryAt}
 
 module _ {mode : Mode} {log : List ℕ} {n : ℕ} {cut : List Event} {report counts' words' mail' report' : List ℕ} {r : Answer}
     (done : Completed mode log n cut report counts' words' mail' report' r) where
@@ -62,91 +57,59 @@ module _ {mode : Mode} {log : List ℕ} {n : ℕ} {cut : List Event} {report cou
       let nodes = (row_lawful done.accepted_is).few_nodes in
       rw here (mail_at s (suc (suc (suc k))) few (omega arith) ∙ rw (there, lt-ltb k n below))
 
-  -- that entry is what goes along
-  mail_element : (s : ℕ) → s < 128 → (x : Message) → slot_at (slots cut) s ≡ some x → (later past : List Event)
-      → cut ≡ later ++ (send x.from x.to x.number ∷ past) → x.sent ≡ length past
-      → (k : ℕ) → k < n → Element mode past x.from x.to k (entry_at mail' s k)
-  mail_element s few x there later past parts place k below =
-      rw (mail_entry s few x there k below) (element_of_lem (flight_holds mode later past parts (row_lawful done.accepted_is).sound (rw place at (slot_flies cut s there)) k) _ refl)
+  -- Each message in flight lies in the mail,
+  pub mail_flying : {m i j p : ℕ} → Flying m i j cut p → (s : ℕ) × Lies mail' s i j m
+  mail_flying {m} {i} {j} {p} flies = let (s, few, there) = flying_lies (row_lawful done.accepted_is) flies in (s, mail_lies s few (message m i j p) there)
 
-  -- and behind the entries the slot is zero
-  mail_rest : (s : ℕ) → s < 128 → (x : Message) → slot_at (slots cut) s ≡ some x → (k : ℕ) → n ≤ k → k < 32 → entry_at mail' s k ≡ 0
-  unfolding element
-  mail_rest s few x there k above small =
-      let here : 35 * s + 3 + k ≡ 35 * s + suc (suc (suc k)) = omega arith in
-      rw here (mail_at s (suc (suc (suc k))) few (omega arith) ∙ rw (there, le-ltb k n above))
-
-  -- a slot's message is posted there
-  mail_posted : (s : ℕ) → s < 128 → (x : Message) → slot_at (slots cut) s ≡ some x → Posted mode n cut mail' s x.number x.from x.to x.sent
-  mail_posted s few x there =
-      let (later, past, parts, place) = flying_parts (slot_flies cut s there) in
-      record {
-        lies = mail_lies s few x there;
-        later = later;
-        past = past;
-        sent_then = parts;
-        place_is = place;
-        letter_is = mail_element s few x there later past parts place;
-        rest_zero = mail_rest s few x there;
-      }
-
-  -- Each message in flight lies in a slot, with the letter of its send.
-  pub mail_flying : {m i j p : ℕ} → Flying m i j cut p → (s : ℕ) × Posted mode n cut mail' s m i j p
-  mail_flying {m} {i} {j} {p} flies = let (s, few, there) = flying_lies (row_lawful done.accepted_is) flies in (s, mail_posted s few (message m i j p) there)
-
-  -- Each slot has a message in flight, with the letter of its send, or is all zero.
-  pub mail_left : (s : ℕ) → s < 128
-      → ((m i j p : ℕ) × Flying m i j cut p × Posted mode n cut mail' s m i j p) ⊎ ((x : ℕ) → x < 35 → get_or mail' (35 * s + x) 0 ≡ 0)
+  -- and nothing else: each slot has a message that is in flight, or is all zero.
+  pub mail_left : (s : ℕ) → s < 128 → ((m i j p : ℕ) × Flying m i j cut p × Lies mail' s i j m) ⊎ ((x : ℕ) → x < 35 → get_or mail' (35 * s + x) 0 ≡ 0)
   unfolding element
   mail_left s few = go (slot_at (slots cut) s) refl
     where
       go : (o : Slot) → slot_at (slots cut) s ≡ o
-          → ((m i j p : ℕ) × Flying m i j cut p × Posted mode n cut mail' s m i j p) ⊎ ((x : ℕ) → x < 35 → get_or mail' (35 * s + x) 0 ≡ 0)
+          → ((m i j p : ℕ) × Flying m i j cut p × Lies mail' s i j m) ⊎ ((x : ℕ) → x < 35 → get_or mail' (35 * s + x) 0 ≡ 0)
       go none e = inr (λ x small. mail_at s x few small ∙ rw e)
-      go (some x) e = inl (x.number, x.from, x.to, x.sent, slot_flies cut s e, mail_posted s few x e)
+      go (some x) e = inl (x.number, x.from, x.to, x.sent, slot_flies cut s e, mail_lies s few x e)
 
-  -- a slot that has a number has a message with it
-  lies_slot : {s i j m : ℕ} → Lies mail' s i j m → (x : Message) × (slot_at (slots cut) s ≡ some x) × (x.number ≡ m)
-  unfolding element
-  lies_slot {s} {i} {m = m} lies = go (slot_at (slots cut) s) refl
+-- ---- what a short message carries
+
+-- a message in flight was sent at its place
+flying_parts : {m i j p : ℕ} {cut : List Event} → Flying m i j cut p → (later past : List Event) × (cut ≡ later ++ (send i j m ∷ past)) × (p ≡ length past)
+flying_parts (flying_head {past = past}) = ([], past, refl, refl)
+flying_parts (flying_tail {e = e} h flies) = let (later, past, parts, place) = flying_parts flies in (e ∷ later, past, ap (λ l. e ∷ l) parts, place)
+
+-- it shows the entry, if its count is above zero
+code_parts : (d c : ℕ) (y x : Bool) → 2 * d + cond y 1 0 ≡ 2 * c + cond x 1 0 → (d ≡ c) × (y ≡ x)
+code_parts d c true true h = (omega arith, refl)
+code_parts d c false false h = (omega arith, refl)
+code_parts d c true false h = absurd (omega arith)
+code_parts d c false true h = absurd (omega arith)
+
+code_only : (e : Entry) (c : ℕ) (x : Bool) → 0 < c → code_of e ≡ 2 * c + cond x 1 0 → e ≡ present c x
+code_only absent c x above h = absurd (omega arith)
+code_only (present d y) c x above h = let same = code_parts d c y x h in rw (same.0, same.1)
+
+-- a message in flight says what was due
+flight_due : {n : ℕ} {cut : List Event} (later past : List Event) {m i j : ℕ} → cut ≡ later ++ (send i j m ∷ past) → Sound n cut → Flying m i j cut (length past)
+    → (k c : ℕ) (x : Bool) → (((barn Short cut).state.letter m).entry k ≡ present c x) ↔ Due columns past i j k c x
+unfolding barn
+flight_due later past parts ok flies k c x = rw parts (flight_exactly later past (rw parts at ok) (rw parts at flies) k c x)
+
+module _ {log : List ℕ} {n : ℕ} {cut : List Event} {report counts' words' mail' report' : List ℕ} {r : Answer}
+    (done : Completed Short log n cut report counts' words' mail' report' r) where
+  -- After a run with short messages, each message in flight lies in a slot, and it carries node k's count c there, with flag x,
+  -- exactly if that was due when it was sent, after the cut `past`.
+  pub mail_due : {m i j p : ℕ} → Flying m i j cut p
+      → (s : ℕ) × (later past : List Event) × (cut ≡ later ++ (send i j m ∷ past)) × (p ≡ length past) × Lies mail' s i j m
+      × ((k c : ℕ) (x : Bool) → k < n → 0 < c → EntryAt mail' s k c x ↔ Due columns past i j k c x)
+  mail_due {m} {i} {j} {p} flies =
+      let (s, few, there) = flying_lies (row_lawful done.accepted_is) flies in
+      let (later, past, parts, place) = flying_parts flies in
+      (s, later, past, parts, place, mail_lies done s few (message m i j p) there, go s few there later past parts place)
     where
-      at : (x : ℕ) → x < 35 → get_or mail' (35 * s + x) 0 ≡ element n (barn mode cut).state.letter (slot_at (slots cut) s) x
-      at x small = mail_at s x lies.slot_few small
-
-      go : (o : Slot) → slot_at (slots cut) s ≡ o → (x : Message) × (slot_at (slots cut) s ≡ some x) × (x.number ≡ m)
-      go none e =
-          let first : 35 * s ≡ 35 * s + 0 = omega arith in
-          let zero-there : get_or mail' (35 * s) 0 ≡ 0 = rw first (at 0 (omega arith) ∙ rw e) in
-          absurd (omega (arith, lies.sender_is))
-      go (some x) e = let number : get_or mail' (35 * s + 2) 0 ≡ x.number = at 2 (omega arith) ∙ rw e in (x, e, sym number ∙ lies.number_is)
-
-  -- And no number lies in two slots, so slots that are not zero and messages in flight are one to one.
-  pub mail_once : {m s i j t a b : ℕ} → Lies mail' s i j m → Lies mail' t a b m → s ≡ t
-  mail_once one other =
-      let (x, there, number) = lies_slot one in
-      let (y, there₂, number₂) = lies_slot other in
-      slot_once cut there there₂ (number ∙ sym number₂)
-
--- ---- what each letter has
-
--- After a run with full messages each message in flight lies in a slot, and the letter there has, for each of the n nodes, the count and
--- the flag that the sender held when it was sent, after the cut `past`.
-pub mail_full : {log : List ℕ} {n : ℕ} {cut : List Event} {report counts' words' mail' report' : List ℕ} {r : Answer}
-    → Completed Full log n cut report counts' words' mail' report' r → {m i j p : ℕ} → Flying m i j cut p
-    → (s : ℕ) × (later past : List Event) × (cut ≡ later ++ (send i j m ∷ past)) × (p ≡ length past) × Lies mail' s i j m
-    × ((k : ℕ) → k < n → entry_at mail' s k ≡ element_of ((full past).count i k) ((full past).flag i k))
-mail_full done {m} {i} {j} flies =
-    let (s, there) = mail_flying done flies in
-    let ok = past_sound there.later there.past i j m there.sent_then (row_lawful done.accepted_is).sound in
-    (s, there.later, there.past, there.sent_then, there.place_is, there.lies, λ k below. element_full ok (there.letter_is k below))
-
--- After a run with short messages each lies in a slot, and the letter there has node k's count c, with flag x, exactly if that was due
--- when it was sent; its element for k is 0 exactly if nothing was due.
-pub mail_due : {log : List ℕ} {n : ℕ} {cut : List Event} {report counts' words' mail' report' : List ℕ} {r : Answer}
-    → Completed Short log n cut report counts' words' mail' report' r → {m i j p : ℕ} → Flying m i j cut p
-    → (s : ℕ) × (later past : List Event) × (cut ≡ later ++ (send i j m ∷ past)) × (p ≡ length past) × Lies mail' s i j m
-    × ((k : ℕ) → k < n → ((c : ℕ) (x : Bool) → ((0 < c) × (entry_at mail' s k ≡ element_of c x)) ↔ Due columns past i j k c x)
-    × ((entry_at mail' s k ≡ 0) ↔ ((c : ℕ) (x : Bool) → ¬ Due columns past i j k c x)))
-mail_due done flies =
-    let (s, there) = mail_flying done flies in
-    (s, there.later, there.past, there.sent_then, there.place_is, there.lies, λ k below. element_due (there.letter_is k below))
+      go : (s : ℕ) → s < 128 → slot_at (slots cut) s ≡ some (message m i j p) → (later past : List Event) → cut ≡ later ++ (send i j m ∷ past) → p ≡ length past
+          → (k c : ℕ) (x : Bool) → k < n → 0 < c → EntryAt mail' s k c x ↔ Due columns past i j k c x
+      go s few there later past parts place k c x below above =
+          let entry = mail_entry done s few (message m i j p) there k below in
+          let due = flight_due later past parts (row_lawful done.accepted_is).sound (rw place at flies) k c x in
+          (λ b. due.0 (code_only _ c x above (sym entry ∙ b)), λ d. entry ∙ ap code_of (due.1 d))

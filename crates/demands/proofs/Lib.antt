@@ -1,5 +1,4 @@
 pub mod OneResult
-pub mod Elements
 pub mod Endings
 pub mod Refusals
 pub mod RoomsBefore
@@ -10,7 +9,6 @@ pub mod ReadBack
 pub mod Messages
 pub mod EveryCut
 pub mod Letters
-pub mod Columns
 pub mod Inputs
 pub mod Useless
 pub mod UselessMessages

@@ -11,14 +11,14 @@ use Rattle.order.specs.Order.{Event, mark, send, At, Counts}
 use Rattle.order.proofs.Counts.{counts_unique}
 use Rattle.verdict.proofs.Accepted.{row_lawful}
 use Rattle.machine.specs.Short.{columns}
-use Rattle.machine.specs.History.{InAll, DueInAll}
-use Rattle.machine.proofs.Totals.{total_events, total_marks, total_sends, full_carried, in_all_unique}
+use Rattle.machine.specs.History.{DueInAll}
+use Rattle.machine.proofs.Totals.{total_events, total_marks, total_sends, full_carried, short_carried, due_unique}
 use Rattle.room.specs.declared.Mode.{Mode}
 use Rattle.room.specs.declared.Mode.TheVariants.{Full, Short}
-use Rattle.room.specs.Modes.{Counted, says}
+use Rattle.room.specs.Modes.{says}
 use Rattle.room.specs.Room.{fits}
 use Rattle.room.proofs.OneRoom.{same_counts, same_flags}
-use Rattle.room.proofs.BothModes.{mode_counts, mode_flags, mode_carried}
+use Rattle.room.proofs.BothModes.{mode_counts, mode_flags}
 use Rattle.report.specs.declared.Answer.{Answer}
 use Rattle.passes.specs.Report.{tally_of}
 use Rattle.report.specs.Run.{Ending, cramped, refusal, overlong, complete, ending, answer_of, number_of, totals_of, Ran}
@@ -42,18 +42,14 @@ module _ {log : List ℕ} {n : ℕ} {cut : List Event} {report counts' words' ma
   unfolding tally_of says
   carried_full done = rw done.answer_is (full_carried n cut)
 
-  -- in either mode they carry what counts, in all: what went along, and with full messages the counts of zero too
-  pub carried_counted : (mode : Mode) → Completed mode log n cut report counts' words' mail' report' r → InAll (Counted mode) n cut (totals_of r).carried
-  unfolding tally_of
-  carried_counted mode done = rw done.answer_is (mode_carried mode (row_lawful done.accepted_is).sound)
-
-  -- so short messages carry what is due
+  -- short messages carry what is due, in all
   pub carried_short : Completed Short log n cut report counts' words' mail' report' r → DueInAll columns n cut (totals_of r).carried
-  carried_short done = carried_counted Short done
+  unfolding tally_of says
+  carried_short done = rw done.answer_is (short_carried (row_lawful done.accepted_is).sound)
 
   -- and nothing else: no other total is what is due
   pub carried_only : Completed Short log n cut report counts' words' mail' report' r → {d : ℕ} → DueInAll columns n cut d → (totals_of r).carried ≡ d
-  carried_only done due = in_all_unique (carried_short done) due
+  carried_only done due = due_unique (carried_short done) due
 
 -- ---- the answers
 

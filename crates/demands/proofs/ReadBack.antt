@@ -20,7 +20,7 @@ use Rattle.report.specs.declared.Answer as run
 use Rattle.report.specs.Run.{number_of, totals_of, Ran}
 use Rattle.demands.specs.Demands.{marks_of, Each, each_nil, each_cons, SameAnswer, ReadsRight}
 use Rattle.demands.proofs.Refusals.{laid_front}
-use Rattle.demands.proofs.ListedMarks.{answers_right, reports_told}
+use Rattle.demands.proofs.ListedMarks.{answers_right}
 use Rattle.demands.proofs.Arrows.{report_only}
 
 -- ---- records
@@ -134,5 +134,5 @@ pub report_read : {mode : Mode} {log counts words mail report counts' words' mai
 report_read {report = report} ran here {n} {cut} {said} row read =
     let told = answers n full cut in
     let each = answers_right (row_lawful row).sound in
-    let (is, size) = report_only ran here row (reports_told each) in
+    let (is, size) = report_only ran here row each in
     each_then each (groups_tell n told said (sym (rw (size, is) (laid_front (groups_of n told) report)) ∙ read))

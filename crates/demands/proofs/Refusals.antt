@@ -2,7 +2,7 @@
 -- what its four rooms hold afterwards are fixed. By the four ways to end, each of which has its row.
 -- Assumes nothing.
 use mathlib.Core.Path.{◌≡◌, refl, sym, ◌∙◌, ap, subst}
-use mathlib.Core.Logic.{◌≢◌, ◌↔◌, ◌⊎◌, ⊎_elim}
+use mathlib.Core.Logic.{◌≢◌, ◌↔◌, ⊎_elim}
 use mathlib.Core.List.{List}
 use Prim.Native.Nat.{ℕ, ◌+◌, ◌≤◌}
 use native.Mathlib.Nat.{zero-add, le_refl}
@@ -11,9 +11,8 @@ use lib.ListN.{length, take, drop}
 use lib.Seq.{take-append_seam, drop-append_seam}
 use Rattle.order.specs.Order.{Event}
 use Rattle.verdict.specs.Verdict.{accepted}
-use Rattle.verdict.specs.Table.{Row, Refused}
+use Rattle.verdict.specs.Table.{Row}
 use Rattle.verdict.proofs.Verdict.{row_unique}
-use Rattle.verdict.proofs.Accepted.{row_lawful}
 use Rattle.verdict.proofs.Points.{refused_number, refused_within}
 use Rattle.room.specs.declared.Mode.{Mode}
 use Rattle.room.specs.declared.Mode.TheVariants.{Full}
@@ -23,34 +22,26 @@ use Rattle.passes.specs.Report.{report_of, tally_of, bytes_alone}
 use Rattle.report.specs.Run.{Ending, answer_of, report_after, number_of, place_of, totals_of, RoomsAfter, Ran}
 use Rattle.report.specs.Settling.{Zero}
 use Rattle.report.proofs.Endings.{zeroed_zero, zeroed_kept}
-use Rattle.demands.specs.Demands.{Reports, Roomy, Answers, Completed, answers_0, answers_1, answers_log, answers_13}
-use Rattle.demands.proofs.ListedMarks.{reports_some, reports_long}
+use Rattle.demands.specs.Demands.{Roomy, Answers, Completed, answers_0, answers_1, answers_log, answers_13}
 use Rattle.demands.proofs.Endings.{Ended, ended_cramped, ended_refusal, ended_overlong, ended_complete, ended, ended_only, Outcome, outcome, outcome_of}
 
 -- ---- the table
-
--- the report of an accepted log is the machine's, and no other has its length
-own_report_lem : {log : List ℕ} {n : ℕ} {cut : List Event} → Row log (accepted n cut) → Reports n cut (report_of n cut)
-own_report_lem row = reports_some (row_lawful row).sound
-
-own_length : {log : List ℕ} {n : ℕ} {cut : List Event} {bytes : List ℕ} → Row log (accepted n cut) → Reports n cut bytes → length bytes ≡ length (report_of n cut)
-own_length row reports = reports_long (row_lawful row).sound reports
 
 -- the row of a way to end
 answers_ended : (mode : Mode) {log counts words mail : List ℕ} {size : ℕ} {e : Ending} → Ended log counts words mail size e
     → Answers log counts words mail size (number_of (answer_of mode log e)) (place_of (answer_of mode log e))
 answers_ended mode (ended_cramped h) = answers_1 h
 answers_ended mode (ended_refusal h f) = answers_log h f
-answers_ended mode (ended_overlong h row long) = answers_13 h row (own_report_lem row) (omega (arith, long))
-answers_ended mode (ended_complete h row short) = answers_0 h row (own_report_lem row) short
+answers_ended mode (ended_overlong h row long) = answers_13 h row long
+answers_ended mode (ended_complete h row short) = answers_0 h row short
 
 -- and the way of a row
 ended_answers : (mode : Mode) {log counts words mail : List ℕ} {size x q : ℕ} → Answers log counts words mail size x q
     → (e : Ending) × Ended log counts words mail size e × (x ≡ number_of (answer_of mode log e)) × (q ≡ place_of (answer_of mode log e))
-ended_answers mode (answers_0 h row reports short) = (_, ended_complete h row (rw (own_length row reports) at short), refl, refl)
+ended_answers mode (answers_0 h row short) = (_, ended_complete h row short, refl, refl)
 ended_answers mode (answers_1 h) = (_, ended_cramped h, refl, refl)
 ended_answers mode (answers_log h f) = (_, ended_refusal h f, refl, refl)
-ended_answers mode (answers_13 h row reports long) = (_, ended_overlong h row (rw (own_length row reports) at long), refl, refl)
+ended_answers mode (answers_13 h row long) = (_, ended_overlong h row long, refl, refl)
 
 -- Every run has a row of the table, and no two.
 pub table_some : (log counts words mail : List ℕ) (size : ℕ) → (x q : ℕ) × Answers log counts words mail size x q
@@ -122,14 +113,13 @@ module _ {mode : Mode} {log counts words mail report counts' words' mail' report
       go (outcome (ended_complete h row short) a b c) = absurd (some (ap number_of a))
 
   -- but 13 gives the bytes that the report needs
-  pub totals_needed : number_of r ≡ 13 → (n : ℕ) × (cut : List Event) × (bytes : List ℕ) × Row log (accepted n cut) × Reports n cut bytes
-      × (totals_of r ≡ bytes_alone (length bytes))
+  pub totals_needed : number_of r ≡ 13 → (n : ℕ) × (cut : List Event) × Row log (accepted n cut) × (totals_of r ≡ bytes_alone (length (report_of n cut)))
   totals_needed here = go (outcome_of ran)
     where
-      go : Seen → (n : ℕ) × (cut : List Event) × (bytes : List ℕ) × Row log (accepted n cut) × Reports n cut bytes × (totals_of r ≡ bytes_alone (length bytes))
+      go : Seen → (n : ℕ) × (cut : List Event) × Row log (accepted n cut) × (totals_of r ≡ bytes_alone (length (report_of n cut)))
       go (outcome (ended_cramped h) a b c) = absurd (omega (arith, ap number_of a))
       go (outcome (ended_refusal h f) a b c) = absurd (omega (arith, ap number_of a, refused_number f))
-      go (outcome (ended_overlong h row long) a b c) = (_, _, _, row, own_report_lem row, ap totals_of a)
+      go (outcome (ended_overlong h row long) a b c) = (_, _, row, ap totals_of a)
       go (outcome (ended_complete h row short) a b c) = absurd (omega (arith, ap number_of a))
 
   -- on a refusal the report room is as it was
@@ -193,59 +183,28 @@ module _ {mode : Mode} {log counts words mail report counts' words' mail' report
       rw (nodes, events) at done
 
   -- and where the rooms are large enough and the log is accepted.
-  pub run_completes : {n : ℕ} {cut : List Event} {bytes : List ℕ} → Roomy counts words mail → Row log (accepted n cut) → Reports n cut bytes
-      → length bytes ≤ length report → Completed mode log n cut report counts' words' mail' report' r
-  run_completes h row reports short =
-      let fits = rw (own_length row reports) at short in
-      let end = ended_only log counts words mail (length report) (ended_complete h row fits) in
+  pub run_completes : {n : ℕ} {cut : List Event} → Roomy counts words mail → Row log (accepted n cut) → length (report_of n cut) ≤ length report
+      → Completed mode log n cut report counts' words' mail' report' r
+  run_completes h row short =
+      let end = ended_only log counts words mail (length report) (ended_complete h row short) in
       record {
         accepted_is = row;
         answer_is = ran.answer_is ∙ ap (answer_of mode log) end;
-        report_fits = fits;
+        report_fits = short;
         report_laid = ran.report_is ∙ ap (λ (e : Ending). report_after e report) end;
         state_held = (subst (λ e. RoomsAfter mode e counts words mail counts' words' mail') end ran.rooms_are).0;
       }
 
   -- So a run answers 0 exactly if the work rooms are large enough, the log is accepted and its report fits.
   pub accepted_when : (number_of r ≡ 0)
-      ↔ (Roomy counts words mail × ((n : ℕ) × (cut : List Event) × (bytes : List ℕ) × Row log (accepted n cut) × Reports n cut bytes × (length bytes ≤ length report)))
-  accepted_when = (λ here. go here (outcome_of ran), λ h. ap number_of (run_completes h.0 h.1.3 h.1.4 h.1.5).answer_is)
+      ↔ (Roomy counts words mail × ((n : ℕ) × (cut : List Event) × Row log (accepted n cut) × (length (report_of n cut) ≤ length report)))
+  accepted_when = (λ here. go here (outcome_of ran), λ h. ap number_of (run_completes h.0 h.1.2 h.1.3).answer_is)
     where
-      go : number_of r ≡ 0 → Seen
-          → Roomy counts words mail × ((n : ℕ) × (cut : List Event) × (bytes : List ℕ) × Row log (accepted n cut) × Reports n cut bytes × (length bytes ≤ length report))
+      go : number_of r ≡ 0 → Seen → Roomy counts words mail × ((n : ℕ) × (cut : List Event) × Row log (accepted n cut) × (length (report_of n cut) ≤ length report))
       go here (outcome (ended_cramped h) a b c) = absurd (omega (arith, ap number_of a))
       go here (outcome (ended_refusal h f) a b c) = absurd (omega (arith, ap number_of a, refused_number f))
       go here (outcome (ended_overlong h row long) a b c) = absurd (omega (arith, ap number_of a))
-      go here (outcome (ended_complete h row short) a b c) = (h, (_, _, _, row, own_report_lem row, short))
-
-  -- It answers with any other number but 1 and 13 exactly if the work rooms are large enough and the log is refused with it.
-  pub refused_when : {x q : ℕ} → x ≢ 0 → x ≢ 1 → x ≢ 13 → ((x ≡ number_of r) × (q ≡ place_of r)) ↔ (Roomy counts words mail × Refused log x q)
-  refused_when {x} {q} some other last = (λ h. go some other last ((refusal_table x q).1 h), λ h. (refusal_table x q).0 (answers_log h.0 h.1))
-    where
-      go : {x q : ℕ} → x ≢ 0 → x ≢ 1 → x ≢ 13 → Answers log counts words mail (length report) x q → Roomy counts words mail × Refused log x q
-      go some other last (answers_0 h row reports short) = absurd (some refl)
-      go some other last (answers_1 h) = absurd (other refl)
-      go some other last (answers_log h f) = (h, f)
-      go some other last (answers_13 h row reports long) = absurd (last refl)
-
-  -- The bytes that it tells are those of the log's report, whether that fits or not.
-  pub bytes_told : (number_of r ≡ 0) ⊎ (number_of r ≡ 13) → {n : ℕ} {cut : List Event} {bytes : List ℕ} → Row log (accepted n cut) → Reports n cut bytes
-      → (totals_of r).bytes ≡ length bytes
-  unfolding tally_of
-  bytes_told known {n} {cut} row reports = sym (own_length row reports ∙ sym (go known (outcome_of ran)))
-    where
-      same : {m : ℕ} {past : List Event} → Row log (accepted m past) → length (report_of m past) ≡ length (report_of n cut)
-      same {m} {past} other =
-          let e : accepted m past ≡ accepted n cut = row_unique log other row in
-          let nodes : m ≡ n = cc in
-          let events : past ≡ cut = cc in
-          rw (nodes, events)
-
-      go : (number_of r ≡ 0) ⊎ (number_of r ≡ 13) → Seen → (totals_of r).bytes ≡ length (report_of n cut)
-      go known (outcome (ended_cramped h) a b c) = absurd (⊎_elim (λ z. omega (arith, ap number_of a)) (λ z. omega (arith, ap number_of a)) known)
-      go known (outcome (ended_refusal h f) a b c) = absurd (⊎_elim (λ z. omega (arith, ap number_of a, refused_number f)) (λ z. omega (arith, ap number_of a, refused_number f)) known)
-      go known (outcome (ended_overlong h other long) a b c) = ap (λ (t : Answer). (totals_of t).bytes) a ∙ same other
-      go known (outcome (ended_complete h other short) a b c) = ap (λ (t : Answer). (totals_of t).bytes) a ∙ same other
+      go here (outcome (ended_complete h row short) a b c) = (h, (_, _, row, short))
 
 -- where the report fills the front of its room, and the rest is as it was
 pub report_filled : {mode : Mode} {log : List ℕ} {n : ℕ} {cut : List Event} {report counts' words' mail' report' : List ℕ} {r : Answer}

@@ -14,7 +14,6 @@ use Rattle.logs.specs.Record.{whole_at, record_at, opening_of}
 use Rattle.verdict.specs.Verdict.{accepted, rules, walk, verdict}
 use Rattle.verdict.specs.Table.{Row}
 use Rattle.verdict.proofs.Verdict.{verdict_row}
-use Rattle.verdict.proofs.Accepted.{row_lawful}
 use Rattle.verdict.proofs.Cases.{log_b}
 use Rattle.machine.specs.Machine.{put, start, marked, meet, take_count, take_flag, received, step, whole, full}
 use Rattle.machine.specs.Short.{offer, brief, short, note, learn_columns, columns}
@@ -29,8 +28,7 @@ use Rattle.groups.specs.Groups.{stamp_record, stamp_records, cause_records, grou
 use Rattle.passes.specs.declared.Tally.{Tally}
 use Rattle.passes.specs.Report.{report_of, tally_of}
 use Rattle.report.specs.Run.{settled, ending, number_of, totals_of, Ran}
-use Rattle.demands.specs.Demands.{Reports, Roomy, Input, in_mode, Given, Program, Meets}
-use Rattle.demands.proofs.ListedMarks.{reports_some}
+use Rattle.demands.specs.Demands.{Roomy, Input, in_mode, Given, Program, Meets}
 use Rattle.demands.proofs.Refusals.{run_completes}
 use Rattle.demands.proofs.Messages.{carried_only}
 use Rattle.demands.proofs.Letters.{mail_at}
@@ -48,9 +46,9 @@ module _ (program : Program) where
   -- A program whose total of carried entries, with short messages, is not the one that is due does not keep the promise: on any
   -- accepted log, in rooms that are large enough.
   pub invented_total : (i : Input) → Given i → i.mode ≡ Short → Roomy i.counts i.words i.mail
-      → {n : ℕ} {cut : List Event} {bytes : List ℕ} {d : ℕ} → Row i.log (accepted n cut) → Reports n cut bytes → length bytes ≤ length i.report
+      → {n : ℕ} {cut : List Event} {d : ℕ} → Row i.log (accepted n cut) → length (report_of n cut) ≤ length i.report
       → DueInAll columns n cut d → (totals_of (program i).answer).carried ≢ d → ¬ Meets program
-  invented_total i given in_short roomy row reports large due other meets = other (carried_only (run_completes ran roomy row reports large) due)
+  invented_total i given in_short roomy row large due other meets = other (carried_only (run_completes ran roomy row large) due)
     where
       ran : Ran Short i.log i.counts i.words i.mail i.report
           (program i).counts (program i).words (program i).mail (program i).report (program i).answer
@@ -116,7 +114,7 @@ module _ (program : Program) where
       × (get_or (program (sample mode log 9)).mail 3 0 ≡ element 2 (barn mode cut).state.letter (slot_at (slots cut) 0) 3)
   first_entry meets mode log cut bytes ok size =
       let row : Row log (accepted 2 cut) = subst (Row log) ok (verdict_row log) in
-      let done = run_completes (meets (sample mode log 9) (sample_given mode log 9 bytes)) sample_roomy row (reports_some (row_lawful row).sound) (omega arith) in
+      let done = run_completes (meets (sample mode log 9) (sample_given mode log 9 bytes)) sample_roomy row (omega arith) in
       (ap number_of done.answer_is, mail_at done 0 3 (omega arith) (omega arith))
 
   -- A program that carries everything in short messages, so that they are as with full ones, does not keep the promise.

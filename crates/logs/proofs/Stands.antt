@@ -1,10 +1,9 @@
--- What the bytes are where the reader gives an answer, case by case and both ways, and from it: reading goes forward, stays
--- within the log, and sees only the bytes of the record. By deciding the kind and the length.
+-- What the bytes are where the reader gives an answer, case by case, and from it: reading goes forward, stays within the
+-- log, and sees only the bytes of the record. By deciding the kind and the length.
 -- Assumes nothing.
 use mathlib.Core.Path.{◌≡◌, refl, sym, ◌∙◌, subst}
-use mathlib.Core.Logic.{◌↔◌}
 use mathlib.Core.List.{List}
-use Prim.Native.Nat.{ℕ, ◌+◌, ◌<◌, ◌≤◌}
+use Prim.Native.Nat.{ℕ, ◌+◌, ◌-◌, ◌<◌, ◌≤◌}
 use native.Mathlib.Decide.{ℕ_discrete, dec_le}
 use native.Mathlib.Omega.{arith}
 use lib.ListN.{length, get_or}
@@ -13,7 +12,7 @@ use Rattle.logs.specs.declared.Record.{Record}
 use Rattle.logs.specs.declared.Record.TheVariants.{Idle, Mark, Send, Receipt}
 use Rattle.logs.specs.declared.Step.{Step}
 use Rattle.logs.specs.declared.Step.TheVariants.{Read, End, Unknown, Short}
-use Rattle.logs.specs.Record.{place, node_at, number_at, record_at}
+use Rattle.logs.specs.Record.{place, node_at, number_at, whole_at, record_at}
 use Rattle.logs.proofs.Reader.{record_end, record_idle, record_mark, record_send, record_receipt, record_unknown, whole_read, whole_short}
 
 -- 01's table of kinds: the kind byte of an event, and how many bytes its record has
@@ -42,53 +41,40 @@ pub data Stands (log : List ℕ) (p : ℕ) : Step → Type 0 where
       → Stands log p (Read (Receipt (node_at log (p + 1)) (number_at log (p + 2))) (place (p + 4)))
 
 module _ (log : List ℕ) (p : ℕ) where
-  -- a record of a known kind of which the log lacks bytes
-  short_read : p < length log → {k size : ℕ} → get_or log p 0 ≡ k → Kind k size → length log < p + size → record_at log p ≡ Short p
-  short_read b e kind_idle h = record_idle log p b e ∙ whole_short log p b 2 _ (omega arith)
-  short_read b e kind_mark h = record_mark log p b e ∙ whole_short log p b 2 _ (omega arith)
-  short_read b e kind_send h = record_send log p b e ∙ whole_short log p b 5 _ (omega arith)
-  short_read b e kind_receipt h = record_receipt log p b e ∙ whole_short log p b 4 _ (omega arith)
-
-  -- where the bytes of an answer stand, it is given
-  pub stands_read : {s : Step} → Stands log p s → record_at log p ≡ s
-  stands_read (stands_end h) = record_end log p h
-  stands_read (stands_unknown h none) =
-      record_unknown log p h (λ e. none 2 (rw e kind_idle)) (λ e. none 2 (rw e kind_mark)) (λ e. none 5 (rw e kind_send)) (λ e. none 4 (rw e kind_receipt))
-  stands_read (stands_short b k h) = short_read b refl k h
-  stands_read (stands_idle k h) = let b : p < length log = omega arith in record_idle log p b k ∙ whole_read log p b 2 _ (omega arith)
-  stands_read (stands_mark k h) = let b : p < length log = omega arith in record_mark log p b k ∙ whole_read log p b 2 _ (omega arith)
-  stands_read (stands_send k h) = let b : p < length log = omega arith in record_send log p b k ∙ whole_read log p b 5 _ (omega arith)
-  stands_read (stands_receipt k h) = let b : p < length log = omega arith in record_receipt log p b k ∙ whole_read log p b 4 _ (omega arith)
-
-  met : {s : Step} → Stands log p s → Stands log p (record_at log p)
-  met h = rw (stands_read h) h
-
   -- a record of a known kind is whole or cut short
-  sized : {size : ℕ} {s : Step} → p < length log → Kind (get_or log p 0) size → (p + size ≤ length log → Stands log p s) → Stands log p (record_at log p)
-  sized {size} inside k whole = go (dec_le (p + size) (length log))
+  sized : (inside : p < length log) (size : ℕ) (r : Record) → Kind (get_or log p 0) size → record_at log p ≡ whole_at log p size r
+      → (p + size ≤ length log → Stands log p (Read r (place (p + size)))) → Stands log p (record_at log p)
+  sized inside size r k e f = go (dec_le size (length log - p))
     where
-      go : Dec (p + size ≤ length log) → Stands log p (record_at log p)
-      go (yes h) = met (whole h)
-      go (no h) = met (stands_short inside k (omega arith))
+      go : Dec (size ≤ length log - p) → Stands log p (record_at log p)
+      go (yes h) = rw (e ∙ whole_read log p inside size r h) (f (omega arith))
+      go (no h) = rw (e ∙ whole_short log p inside size r (omega arith)) (stands_short inside k (omega arith))
 
   kind : ℕ
   kind = get_or log p 0
 
   by_kind : p < length log → Dec (kind ≡ 0x11) → Dec (kind ≡ 0x12) → Dec (kind ≡ 0x13) → Dec (kind ≡ 0x14) → Stands log p (record_at log p)
   unfolding kind
-  by_kind h (yes k) b c d = sized h (rw k kind_idle) (stands_idle k)
-  by_kind h (no a) (yes k) c d = sized h (rw k kind_mark) (stands_mark k)
-  by_kind h (no a) (no b) (yes k) d = sized h (rw k kind_send) (stands_send k)
-  by_kind h (no a) (no b) (no c) (yes k) = sized h (rw k kind_receipt) (stands_receipt k)
-  by_kind h (no a) (no b) (no c) (no d) = met (stands_unknown h (λ size. no_kind a b c d))
+  by_kind h (yes k) b c d = sized h 2 _ (rw k kind_idle) (record_idle log p h k) (stands_idle k)
+  by_kind h (no a) (yes k) c d = sized h 2 _ (rw k kind_mark) (record_mark log p h k) (stands_mark k)
+  by_kind h (no a) (no b) (yes k) d = sized h 5 _ (rw k kind_send) (record_send log p h k) (stands_send k)
+  by_kind h (no a) (no b) (no c) (yes k) = sized h 4 _ (rw k kind_receipt) (record_receipt log p h k) (stands_receipt k)
+  by_kind h (no a) (no b) (no c) (no d) = rw (record_unknown log p h a b c d) (stands_unknown h (λ size. no_kind a b c d))
 
-  -- and every place has its case
+  -- every place has its case
   pub stands : Stands log p (record_at log p)
   stands = go (dec_le (length log) p)
     where
       go : Dec (length log ≤ p) → Stands log p (record_at log p)
-      go (yes h) = met (stands_end h)
+      go (yes h) = rw (record_end log p h) (stands_end h)
       go (no h) = by_kind (omega arith) (ℕ_discrete kind 0x11) (ℕ_discrete kind 0x12) (ℕ_discrete kind 0x13) (ℕ_discrete kind 0x14)
+
+  -- and where the bytes of a record stand, it is read
+  pub stands_read : {r : Record} {c : Cursor} → Stands log p (Read r c) → record_at log p ≡ Read r c
+  stands_read (stands_idle k h) = let b : p < length log = omega arith in record_idle log p b k ∙ whole_read log p b 2 _ (omega arith)
+  stands_read (stands_mark k h) = let b : p < length log = omega arith in record_mark log p b k ∙ whole_read log p b 2 _ (omega arith)
+  stands_read (stands_send k h) = let b : p < length log = omega arith in record_send log p b k ∙ whole_read log p b 5 _ (omega arith)
+  stands_read (stands_receipt k h) = let b : p < length log = omega arith in record_receipt log p b k ∙ whole_read log p b 4 _ (omega arith)
 
 -- how many bytes a record has
 abbrev pub size_of : Record → ℕ
@@ -126,17 +112,16 @@ module _ (log : List ℕ) (p : ℕ) where
       go : Stands log p End → length log ≤ p
       go (stands_end h) = h
 
-  -- a byte of the log that is no kind
-  pub unknown_exactly : {q : ℕ} → (record_at log p ≡ Unknown q) ↔ ((q ≡ p) × (p < length log) × ((size : ℕ) → ¬ Kind (get_or log p 0) size))
-  unknown_exactly = (λ e. go (subst (Stands log p) e (stands log p)), λ h. rw h.0 (stands_read log p (stands_unknown h.1 h.2)))
+  -- 4 is given at a byte of the log that is no kind
+  pub unknown_there : {q : ℕ} → record_at log p ≡ Unknown q → (q ≡ p) × (p < length log) × ((size : ℕ) → ¬ Kind (get_or log p 0) size)
+  unknown_there e = go (subst (Stands log p) e (stands log p))
     where
       go : {q : ℕ} → Stands log p (Unknown q) → (q ≡ p) × (p < length log) × ((size : ℕ) → ¬ Kind (get_or log p 0) size)
       go (stands_unknown h none) = (refl, h, none)
 
-  -- the kind byte of a record of which the log lacks bytes
-  pub short_exactly : {q : ℕ}
-      → (record_at log p ≡ Short q) ↔ ((q ≡ p) × (p < length log) × ((size : ℕ) × Kind (get_or log p 0) size × (length log < p + size)))
-  short_exactly = (λ e. go (subst (Stands log p) e (stands log p)), λ h. rw h.0 (stands_read log p (stands_short h.1 h.2.1 h.2.2)))
+  -- 5 is given at the kind byte of a record of which the log lacks bytes
+  pub short_there : {q : ℕ} → record_at log p ≡ Short q → (q ≡ p) × (p < length log) × ((size : ℕ) × Kind (get_or log p 0) size × (length log < p + size))
+  short_there e = go (subst (Stands log p) e (stands log p))
     where
       go : {q : ℕ} → Stands log p (Short q) → (q ≡ p) × (p < length log) × ((size : ℕ) × Kind (get_or log p 0) size × (length log < p + size))
       go (stands_short {size = size} h k l) = (refl, h, (size, k, l))

@@ -3,7 +3,7 @@
 -- Assumes nothing.
 use mathlib.Core.Path.{◌≡◌, refl, sym, ◌∙◌}
 use mathlib.Core.Logic.{◌⊎◌, inl, inr, ⊎_elim, ◌↔◌}
-use mathlib.Core.Bool.{Bool, true, false, ◌&&◌, true≢false, and-eq-true_iff}
+use mathlib.Core.Bool.{Bool, true, false, ◌&&◌, true≢false}
 use mathlib.Mathlib.Data.Bool.Basic.{eq-false_of_not-eq-true}
 use mathlib.Core.List.{List, [], ◌∷◌, ◌++◌}
 use Prim.Native.Nat.{ℕ}
@@ -26,7 +26,7 @@ use Rattle.machine.proofs.Brought.{columns_exact, columns_honest}
 -- only that its message is in flight, and of a message not that it is ever received.
 module _ {n : ℕ} {es : List Event} (ok : Sound n es) where
   columns_fair : Fair columns es
-  columns_fair = honest_fair columns (columns_honest columns.spares (λ s held i j k h. (and-eq-true_iff _ _).0 h)) ok
+  columns_fair = honest_fair columns columns_honest ok
 
   pub short_counts : (i k : ℕ) → (short columns es).state.count i k ≡ (full es).count i k
   short_counts = fair_counts columns columns_fair
@@ -49,7 +49,7 @@ module _ {n : ℕ} {past : List Event} (ok : Sound n past) (i j k : ℕ) where
   spared c true e = (λ h. inr (λ b. true≢false (sym (brought.1 b) ∙ h)), ⊎_elim (λ h. absurd (true≢false h)) (λ h. eq-false_of_not-eq-true (λ q. h (brought.0 q))))
     where
       brought : (bit ≡ true) ↔ Brought columns i j k c past
-      brought = rw e at (columns_exact columns.spares ok i j k)
+      brought = rw e at (columns_exact ok i j k)
 
   -- what i's message to j after the cut carries is what is due
   pub carried_exactly : (c : ℕ) (x : Bool) → (brief (short columns past) i j k ≡ present c x) ↔ Due columns past i j k c x

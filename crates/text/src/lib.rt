@@ -127,7 +127,7 @@ fn counts(report: &[u8], place: usize, nodes: usize, at: usize, room: &mut [u8])
     let mut write = at;
     let mut k: usize = 0;
     while k < nodes {
-        let found = view::count(report, read, k);
+        let found = reading::count_at(report, read, k);
         write = count(found.count, write, room);
         read = found.past;
         k += 1;

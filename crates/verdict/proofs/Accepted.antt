@@ -15,7 +15,7 @@ use Rattle.verdict.specs.Verdict.{accepted, verdict}
 use Rattle.verdict.specs.Table.{Reached, reached_first, reached_next, Row, row_accepted}
 use Rattle.verdict.specs.Lawful.{Lawful}
 use Rattle.logs.proofs.Stands.{size_of, read_size}
-use Rattle.logs.proofs.FirstRecord.{nodes_exactly}
+use Rattle.logs.proofs.FirstRecord.{nodes_there}
 use Rattle.verdict.proofs.Verdict.{verdict_accepted}
 use Rattle.verdict.proofs.Lawfully.{lawful_next}
 
@@ -25,8 +25,8 @@ use Rattle.verdict.proofs.Lawfully.{lawful_next}
 pub reached_lawful : {log : List ℕ} {n p : ℕ} {cut : List Event} → Reached log n p cut → Lawful n cut
 unfolding in_flight
 reached_lawful {log} (reached_first e) =
-    let first = (nodes_exactly log).0 e in
-    record { some_node = first.4; few_nodes = first.5; sound = sound_nil; few_events = omega arith; few_flying = none }
+    let first = nodes_there log e in
+    record { some_node = first.2; few_nodes = first.3; sound = sound_nil; few_events = omega arith; few_flying = none }
   where
     none : (later past : List Event) → [] ≡ later ++ past → length (in_flight past) ≤ 128
     none [] past q = rw (← q) (omega arith)
@@ -50,7 +50,7 @@ size_most (Receipt j m) = omega arith
 
 -- a place that was reached is not far: no record has more than five bytes
 pub reached_length : {log : List ℕ} {n p : ℕ} {cut : List Event} → Reached log n p cut → p ≤ 2 + 5 * length cut
-reached_length {log} (reached_first e) = let h = (nodes_exactly log).0 e in omega arith
+reached_length {log} (reached_first e) = let h = nodes_there log e in omega arith
 reached_length {log} (reached_next {p = p} {r = r} before e h) = omega (arith, reached_length before, read_size log p e, size_most r)
 
 -- an accepted log has at most 20,482 bytes

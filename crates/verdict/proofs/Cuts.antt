@@ -19,7 +19,7 @@ use Rattle.logs.specs.Record.{record_at, opening_of}
 use Rattle.verdict.specs.Verdict.{Verdict, accepted, event_of, Rule, rules, first_broken, after_step, after_rules, walk, verdict}
 use Rattle.verdict.specs.Table.{Reached, reached_first, reached_next, Ends, ends_first, ends_next, refused_rule}
 use Rattle.logs.proofs.Stands.{read_forward, read_same}
-use Rattle.logs.proofs.FirstRecord.{nodes_exactly, nodes_same}
+use Rattle.logs.proofs.FirstRecord.{nodes_there, nodes_same}
 use Rattle.verdict.proofs.Rules.{Judged, judged_breaks, judged_passes, judged}
 use Rattle.verdict.proofs.Walk.{reached_walk}
 use Rattle.verdict.proofs.Verdict.{not_accepted, reached_bound, verdict_accepted, verdict_refused}
@@ -29,7 +29,7 @@ use Rattle.verdict.proofs.Verdict.{not_accepted, reached_bound, verdict_accepted
 module _ (log other : List ℕ) (m : ℕ) (long : m ≤ length other) (same : (i : ℕ) → i < m → get_or log i 0 ≡ get_or other i 0) where
   pub reached_same : {n p : ℕ} {cut : List Event} → Reached log n p cut → p ≤ m → Reached other n p cut
   reached_same (reached_first e) h =
-      let k = (nodes_exactly log).0 e in
+      let k = nodes_there log e in
       reached_first (nodes_same log other (omega arith) (same 0 (omega arith)) (same 1 (omega arith)) e)
   reached_same (reached_next {p = p} before e h) k =
       let f = read_forward log p e in

@@ -22,7 +22,7 @@ use Rattle.verdict.specs.Verdict.{Verdict, refused, accepted, event_of, Rule, ru
 use Rattle.verdict.specs.Table.{Passes, Reached, reached_first, reached_next, Refused, refused_2, refused_3, refused_4, refused_5, refused_rule, Row, row_accepted, row_refused}
 use Rattle.logs.proofs.Reader.{record_end}
 use Rattle.logs.proofs.Stands.{read_forward, end_there}
-use Rattle.logs.proofs.FirstRecord.{nodes_exactly}
+use Rattle.logs.proofs.FirstRecord.{nodes_there}
 use Rattle.verdict.proofs.Rules.{Judged, judged_breaks, judged_passes, judged, breaks_first}
 use Rattle.verdict.proofs.Walk.{reached_walk}
 
@@ -32,7 +32,7 @@ not_accepted e = absurd (false≢true (cc))
 
 -- what was reached lies within the log
 pub reached_bound : {log : List ℕ} {n p : ℕ} {cut : List Event} → Reached log n p cut → (2 ≤ p) × (p ≤ length log)
-reached_bound {log} (reached_first e) = let h = (nodes_exactly log).0 e in omega arith
+reached_bound {log} (reached_first e) = let h = nodes_there log e in omega arith
 reached_bound {log} (reached_next {p = p} before e h) = let b = reached_bound before in let f = read_forward log p e in omega arith
 
 -- ---- the verdict is a row

@@ -1,6 +1,5 @@
--- What the walks of this crate have in common: the types of a lent report and of a view, at the one lifetime of a signature, that what each owns is had twice, since both are Copy, so that a view lends its report and stays whole, and that their machine values are of their types.
+-- What the walks of this crate have in common: the types of a lent report and of a view, at the one lifetime of a signature, that what each owns is had twice, since both are Copy, and that their machine values are of their types.
 -- Assumes nothing.
-use mathlib.Core.Path.{◌≡◌}
 use Prim.Native.Nat.{ℕ}
 use mathlib.Core.List.{List, [], ◌∷◌}
 use lib.ListN.{length}
@@ -10,7 +9,6 @@ use mir.Val.{Val}
 use base.Logic.{ent, sep}
 use base.Fml.{Lft, Fml}
 use types.Logic.{Logic, sem}
-use types.Kit.{‵, ◌⊛◌, given, ◌$◌, ◌∵◌, !, qed, move, drop, use1, split, learn, frame, done}
 use denote.RattleType.{RattleType}
 use denote.Laws.{Is, Typed}
 use denote.Builtin.{u8}
@@ -19,8 +17,6 @@ use denote.Signature.{named_lft}
 use denote.Slice.{slice_val, ShrSlice, shr_slice_Lawful, shr_slice_copy}
 use denote.Struct.Declared.{Declared}
 use denote.Struct.Laws as LL
-use denote.Struct.Rest.{all_own, field_own, rest, own_open, own_out}
-use denote.Struct.Values.{Values}
 use Rattle.view.specs.declared.View.{View}
 use Rattle.view.specs.contracts.View as T
 use Rattle.view.proofs.View.TheLaws as T'
@@ -56,10 +52,6 @@ view_row κ = T.the_row (lifetime κ)
 abbrev pub view_val : View → Val
 view_val d = T'.lowered d
 
--- the values of its fields
-abbrev view_fields : (κ : Lft) → View → Values (view_type κ).parts
-view_fields κ d = (d.report, (d.at, tt))
-
 -- what it owns
 abbrev pub view_own : Lft → View → Fml
 view_own κ d = (view_row κ).own_val d (view_val d ∷ [])
@@ -80,12 +72,3 @@ module _ {M : Type 1} {𝓤 : Ura M} (𝓛 : Logic 𝓤) (κ : Lft) where
   -- its machine value is of its type
   pub view_typed : (d : View) → Is (view_row κ) d (view_val d ∷ []) → Typed (view_row κ).mir (view_val d ∷ [])
   view_typed d = (LL.lawful (view_type κ) (view_laws κ) 𝓛).typed d (view_val d ∷ [])
-
-  -- what a view owns is kept, and what its report owns is had beside it
-  pub view_lends : (d : View) → ent 𝓤 (sem 𝓛 (view_own κ d)) (sep 𝓤 (sem 𝓛 (report_own κ d.report)) (sem 𝓛 (view_own κ d)))
-  view_lends d =
-      qed 𝓛 (‵ (view_own κ d) ∷ []) ∵ use1 𝓛 (‵ (view_own κ d) ⊛ ‵ (view_own κ d)) (view_twice d) $ split ! $
-      use1 𝓛 (given (view_val d ∷ [] ≡ view_val d ∷ []) (‵ (all_own (view_type κ).parts (view_laws κ) (view_fields κ d)))) (own_open 𝓛 (view_type κ) (view_laws κ) (view_fields κ d) (view_val d)) $ learn ! (λ _.
-      use1 𝓛 (‵ (field_own (view_type κ).parts (view_laws κ) 0 d.report) ⊛ ‵ (rest (view_type κ).parts (view_laws κ) 0 (view_fields κ d))) (own_out 𝓛 (view_type κ).parts (view_laws κ) 0 (view_fields κ d)) $ split ! $
-      -- [what the report owns; what the place owns; what the view owns]
-      move ! (1 ∷ []) $ drop ! $ frame ! $ done !)

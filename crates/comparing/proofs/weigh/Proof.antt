@@ -17,11 +17,11 @@ decreases-loop report first second one₀ other₀ more₀ less₀ k₀ one othe
 loop-holds : tie.Need-loop-init invariant-loop decreases-loop
 loop-holds c = weighed_none c.before.requires.0 c.before.requires.1
 
-count-requires : tie.Need-count-requires invariant-loop decreases-loop
-count-requires c κs = c.before.loop.invariant.one_inside
+count-at-requires : tie.Need-count-at-requires invariant-loop decreases-loop
+count-at-requires c κs = c.before.loop.invariant.one_inside
 
-count-requires-2 : tie.Need-count-requires-2 invariant-loop decreases-loop
-count-requires-2 c κs = c.before.before.loop.invariant.other_inside
+count-at-requires-2 : tie.Need-count-at-requires-2 invariant-loop decreases-loop
+count-at-requires-2 c κs = c.before.before.loop.invariant.other_inside
 
 add-k : tie.Need-overflow-add-k invariant-loop decreases-loop
 add-k c = omega (arith, c.before.before.before.before.before.before.before.before.before.loop.invariant.few)
@@ -32,8 +32,8 @@ loop-less c = omega (arith, c.before.before.before.before.before.before.before.b
 loop-again : tie.Need-loop-preserved invariant-loop decreases-loop
 loop-again c =
     let l = c.before.before.before.before.before.before.before.before.before.loop in
-    let a = c.before.before.before.before.before.before.before.count.ensures in
-    let b = c.before.before.before.before.before.before.count2.ensures in
+    let a = c.before.before.before.before.before.before.before.count_at.ensures in
+    let b = c.before.before.before.before.before.before.count-at2.ensures in
     let up = c.before.before.before.if1.branch in
     let down = c.if2.branch in
     rw (a.1, b.1) (weighed_more l.invariant c.before.before.before.before.before.before.before.before.loop-test.true _ _ a.0 b.0 _ _
@@ -55,8 +55,8 @@ weigh-spec =
     invariant-loop
     decreases-loop
     loop-holds
-    count-requires
-    count-requires-2
+    count-at-requires
+    count-at-requires-2
     add-k
     loop-less
     loop-again

@@ -27,11 +27,11 @@ loop-holds c =
     let s = c.before.before in
     (search rules, s.requires.0, place_none _ _, refl, search rules, stamp_none _ _ _ (omega arith))
 
+count-at-requires : tie.Need-count-at-requires invariant-loop decreases-loop
+count-at-requires c κs = search rules
+
 count-requires : tie.Need-count-requires invariant-loop decreases-loop
 count-requires c κs = search rules
-
-count-requires-2 : tie.Need-count-requires-2 invariant-loop decreases-loop
-count-requires-2 c κs = search rules
 
 add-k : tie.Need-overflow-add-k invariant-loop decreases-loop
 add-k c = search rules
@@ -43,8 +43,8 @@ loop-again : tie.Need-loop-preserved invariant-loop decreases-loop
 loop-again c =
     let s = c.before.before.before.before.before.before.before.before.before in
     let l = c.before.before.before.before.before.before.loop in
-    let found = c.before.before.before.before.count.ensures in
-    let laid = c.before.before.count2 in (
+    let found = c.before.before.before.before.count_at.ensures in
+    let laid = c.before.before.count in (
       search rules,
       rw found.1 (past_inside _ _ _ l.invariant.1),
       found.1 ∙ place_more _ _ _ _ l.invariant.2,
@@ -69,8 +69,8 @@ counts-spec =
     invariant-loop
     decreases-loop
     loop-holds
+    count-at-requires
     count-requires
-    count-requires-2
     add-k
     loop-less
     loop-again

@@ -1,5 +1,5 @@
 -- `View::read` meets its contract: a walk of its MIR, by hand. The view is taken apart, and `shape::look` is called on the report and the place. All that the proof knows of `look` is that it meets its contract.
--- What the view owns is kept whole for the exit, and what its report owns goes to the callee, beside the lifetime's token, which comes back.
+-- What the view owns is had twice: one copy is kept whole for the exit, and of the other what the report owns goes to the callee, beside the lifetime's token, which comes back.
 -- Assumes nothing.
 use mathlib.Core.Path.{◌≡◌, refl}
 use Prim.Native.Nat.{◌<◌, ◌^◌}
@@ -15,7 +15,7 @@ use prog.Wp.{Calls, Loops, WpFn, Tables}
 use types.Logic.{Logic, sem}
 use contract.Monad.{Fun, fact}
 use contract.Running.{tables, tables_of}
-use types.Kit.{‵, raw, ◌⊛◌, ⋆, some, later, ◌$◌, ◌∵◌, !, qed, by, move, drop, use1, use2, split, join, pick, fsplit, fjoin, suffices, frame, await, done}
+use types.Kit.{‵, raw, ◌⊛◌, given, ⋆, some, later, ◌$◌, ◌∵◌, !, qed, by, move, drop, use1, use2, split, join, learn, pick, fsplit, fjoin, suffices, frame, await, done}
 use types.Part.{whole, sub, look_in}
 use types.Run.{look, init, forget, stop, fld, from, load, of_opd, and_then, no_more, assigns, land, returns, enter, alloc1, alloc0, params1, pass1, pass0, free1, free0}
 use sound.WpLaws.{FmC, fm_of, WpFn-mono}
@@ -26,9 +26,11 @@ use denote.Builtin.{usize}
 use denote.Steps.{owned, peeks, heard, nothing}
 use denote.Enum.Laws as EL
 use denote.Struct.Laws as LL
+use denote.Struct.Rest.{all_own, field_own, rest, own_open, own_out}
+use denote.Struct.Values.{Values}
 use denote.Triple.Statement.{Contract, Triple}
 use denote.Triple.Call.{calls_at}
-use denote.Triple.Entry.{Args, Vals, on_entry}
+use denote.Triple.Entry.{Vals, on_entry}
 use denote.Triple.Spec.{Meets, triple_of}
 use denote.Triple.Table.{entered, cited}
 use denote.Triple.Walked.{says, Stays, stay_none, walk_of, Goes-none, ends_at, walked, walk_Meets}
@@ -43,7 +45,7 @@ use Rattle.shape.proofs.look.Symbol as look-def
 use Rattle.shape.proofs.look.Symbol.{name as #shape·look}
 use Rattle.shape.proofs.look.Met as look-thm
 use Rattle.view.specs.declared.View.{View}
-use Rattle.view.proofs.Lent.{report_row, report_val, report_own, view_type, view_laws, view_row, view_val, view_own, view_lends, view_typed}
+use Rattle.view.proofs.Lent.{report_row, report_val, view_type, view_laws, view_row, view_val, view_own, view_twice, view_typed}
 use Rattle.view.specs.contracts.View.read.Key.{name as #view·read}
 use Rattle.view.specs.contracts.View.read as read
 use Rattle.view.proofs.View.read.Statement as stated
@@ -69,8 +71,8 @@ module _ {M : Type 1} {𝓤 : Ura M} (𝓛 : Logic 𝓤) (mem : Memory → SProp
   abbrev Post : Val → SProp 𝓤
   Post = (walk_of 𝓛 read.ended stayed (read.clauses 𝓛 mem run)).post (((κ, tt), (q, tt), tt, (d, tt), (view_val d ∷ [], tt)), tt)
 
-  -- the values of the view's fields are what the callee is passed
-  abbrev fields : Args seen.signature (κ, tt)
+  -- the values of the view's fields, which are what the callee is passed
+  abbrev fields : Values (view_type κ).parts
   fields = (d.report, (d.at, tt))
 
   abbrev passed : Vals seen.signature (κ, tt)
@@ -86,10 +88,12 @@ module _ {M : Type 1} {𝓤 : Ura M} (𝓛 : Logic 𝓤) (mem : Memory → SProp
   apart : d.at < 2 ^ 64 → ent 𝓤 entry (sep 𝓤 ((Look 𝓛 mem run).pre to) (sem 𝓛 (view_own κ d)))
   apart fits =
       qed 𝓛 ((‵ (flft κ q) ⊛ ‵ ftrue) ∷ ‵ (owns (view_row κ ∷ []) (d, tt) (view_val d ∷ [], tt)) ∷ []) ∵
-      move ! (1 ∷ []) $ fsplit ! $ move ! (1 ∷ []) $ drop ! $ use1 𝓛 (‵ (report_own κ d.report) ⊛ ‵ (view_own κ d)) (view_lends 𝓛 κ d) $ split ! $
-      -- [what the report owns; what the view owns; the token]
-      nothing ! $ owned ! usize (Is usize) (uint_Makes 𝓛 w64) d.at _ (refl, fits) $ fjoin ! $ move ! (1 ∷ 0 ∷ []) $ fjoin ! $
-      move ! (2 ∷ 0 ∷ []) $ use2 𝓛 (raw ((Look 𝓛 mem run).pre to)) asked $ frame ! $ done !
+      move ! (1 ∷ []) $ fsplit ! $ move ! (1 ∷ []) $ drop ! $ use1 𝓛 (‵ (view_own κ d) ⊛ ‵ (view_own κ d)) (view_twice 𝓛 κ d) $ split ! $
+      use1 𝓛 (given (view_val d ∷ [] ≡ view_val d ∷ []) (‵ (all_own (view_type κ).parts (view_laws κ) fields))) (own_open 𝓛 (view_type κ) (view_laws κ) fields (view_val d)) $ learn ! (λ _.
+      use1 𝓛 (‵ (field_own (view_type κ).parts (view_laws κ) 0 d.report) ⊛ ‵ (rest (view_type κ).parts (view_laws κ) 0 fields)) (own_out 𝓛 (view_type κ).parts (view_laws κ) 0 fields) $ split ! $
+      -- [what the report owns; what the place owns; what the view owns; the token]
+      move ! (1 ∷ []) $ drop ! $ nothing ! $ owned ! usize (Is usize) (uint_Makes 𝓛 w64) d.at _ (refl, fits) $ fjoin ! $ move ! (1 ∷ 0 ∷ []) $ fjoin ! $
+      move ! (2 ∷ 0 ∷ []) $ use2 𝓛 (raw ((Look 𝓛 mem run).pre to)) asked $ frame ! $ done !)
 
   -- of the callee's `ensured`, the clause alone: it has no `&mut`, so what is said of last values is dropped
   said : (g : Group) → ent 𝓤 (ensured 𝓛 seen.ended (seen.clauses 𝓛 mem run) (κ, tt) fields tt g) (fact 𝓤 (g ≡ found))

@@ -1,4 +1,6 @@
 // Words of flags: a flag for each of up to 32 nodes, in one u32.
+#![tactic(auto)]
+
 ghost use Rattle.std.specs.Prelude.{◌≡◌, true, false, ◌<◌, ◌^◌};
 ghost use Rattle.bits.specs.Bits.{bit, Put, meets, set_below};
 

@@ -2,23 +2,25 @@
 //
 // A log is a row of records, each one byte of kind and then a body whose length the kind fixes; two-byte numbers are low
 // byte first. Every function takes any bytes and any place, and says by one equation what it answers.
+#![tactic(auto)]
+
 ghost use Rattle.std.specs.Prelude.{◌≡◌, ◌+◌, ◌<◌, length};
 ghost use Rattle.logs.specs.Record.{record_at, idle_at, mark_at, send_at, receipt_at, number_at, opening_of};
 
 // The number of a node, from 0.
-#[derive(Drop)]
+#[derive(Clone, Copy, Drop)]
 pub struct Node(pub u8);
 
 // The number of a mark among the marks of its node, from 1.
-#[derive(Drop)]
+#[derive(Clone, Copy, Drop)]
 pub struct MarkNumber(pub u16);
 
 // The number that a message bears from its send to its receipt.
-#[derive(Drop)]
+#[derive(Clone, Copy)]
 pub struct MessageNumber(pub u16);
 
 // One event of a barn, as its record gives it.
-#[derive(Drop)]
+#[derive(Clone, Copy)]
 pub enum Record {
     // An event of no interest, at the node.
     Idle(Node),
@@ -31,7 +33,7 @@ pub enum Record {
 }
 
 // The answer to reading the first record.
-#[derive(Drop)]
+#[derive(Clone, Copy)]
 pub enum Opening {
     // The node count, from 1 to 32, and the place past the record.
     Nodes(u8, Cursor),
@@ -42,7 +44,7 @@ pub enum Opening {
 }
 
 // The answer to reading one record.
-#[derive(Drop)]
+#[derive(Clone, Copy)]
 pub enum Step {
     // The record, and the place past it.
     Read(Record, Cursor),
@@ -55,7 +57,7 @@ pub enum Step {
 }
 
 // A place in a log, taken by value and handed back past what was read.
-#[derive(Drop)]
+#[derive(Clone, Copy)]
 pub struct Cursor {
     pub at: usize,
 }

@@ -28,6 +28,7 @@ use Rattle.machine.proofs.Listed.{flagged_in, flagged_out, flagged_ascending, as
 
 -- a mark of a sound cut is at a node of the barn
 pub mark_node : {n : ℕ} {es : List Event} {p k : ℕ} → Sound n es → At es p (mark k) → k < n
+mark_node {n = n} {p = p} {k = k} sound_nil a = elim a [ ]
 mark_node (sound_cons a h) at_head = a
 mark_node (sound_cons a h) (at_tail b) = mark_node h b
 
@@ -183,7 +184,8 @@ module _ (n : ℕ) (state : List Event → State) where
 -- every mark of a sound cut has a right answer
 pub mark_answered : {n : ℕ} {es : List Event} {p i : ℕ} → Sound n es → At es p (mark i) → (a : Answer) × Memᴰ a (answers n full es) × Right es p a
 unfolding answers
-mark_answered {n} {i = i} ok (at_head {past = past}) = (answer n i (full past), Memᴰ.append_right (answers n full past) (Memᴰ.head refl), mark_right [] past i ok)
+mark_answered sound_nil a = elim a [ ]
+mark_answered {n} {i = i} (sound_cons {past = past} h ok) at_head = (answer n i (full past), Memᴰ.append_right (answers n full past) (Memᴰ.head refl), mark_right [] past i (sound_cons h ok))
 mark_answered {n} (sound_cons h ok) (at_tail {x = x} {past = past} a) =
     let r = mark_answered ok a in
     (r.0, answers_kept n full x past r.1, right_grown past (x ∷ []) (at_bound a) r.2)

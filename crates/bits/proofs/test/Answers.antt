@@ -1,20 +1,12 @@
 -- `bits::test` meets its contract: a mask of 1 leaves the lowest digit of the shifted word.
--- Assumes nothing.
 use mathlib.Core.Path.{ap}
 use Prim.Native.Nat.{ℕ, ◌/◌, ◌^◌}
 use borrow.Author.Rules.{rules}
 use lib.Dec.{eqb}
 use lib.Bits.{and_mask}
 use Rattle.bits.specs.Bits.{bit}
-use Rattle.bits.proofs.test.Statement.{statement}
-use Rattle.bits.proofs.test.Tie as tie
+use Rattle.bits.proofs.test.Goals as goal
 
-shr-result : tie.Need-overflow-shr-result
-shr-result c = search rules
-
-returns : tie.Need-returns
+pub returns : goal.returns
 unfolding bit
 returns c = ap (λ (n : ℕ). eqb n 1) (and_mask (c.args.word / 2 ^ c.args.k) 1)
-
-pub test-spec : {M : Type 1} → statement M
-test-spec = tie.close (tie.spec shr-result returns)

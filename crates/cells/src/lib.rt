@@ -1,9 +1,11 @@
 // A node's cells, one for each node: what a message says of them, and what a letter makes of them.
+#![tactic(auto)]
+
 ghost use Rattle.std.specs.Prelude.{◌≡◌, ℕ, ◌≤◌, length, get_or};
 ghost use Rattle.cells.specs.Cells.{code_of, entry_of, said_of, merged, Packed, Joined};
 
 // What a node holds of another: its count, the bits of those who brought that very count, and the flag.
-#[derive(Drop)]
+#[derive(Clone, Copy)]
 pub struct Cell {
     pub count: u16,
     pub column: u32,
@@ -61,7 +63,7 @@ fn merge(cell: Cell, entry: u16, sender: u32) -> Cell
 pub fn pack(row: &[u16], columns: &[u32], flags: u32, spared: u32, letter: &mut [u16]) -> usize
     requires row_len_bound { (length row.now ≤ 32) × (length columns.now ≡ length row.now)
         × (length letter.old ≡ length row.now) }
-    requires by_index { (k : ℕ) → get_or row.now k 0 ≤ 4096 }
+    requires counts_bound { (k : ℕ) → get_or row.now k 0 ≤ 4096 }
     ensures { Packed spared row.now columns.now flags (length row.now)
         letter.new result }
 {

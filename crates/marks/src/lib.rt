@@ -1,4 +1,6 @@
 // The step of a mark on the work room.
+#![tactic(auto)]
+
 ghost use Rattle.std.specs.Prelude.{◌≡◌, List, ℕ, suc, ◌≤◌, ◌<◌, length, get_or, set};
 ghost use Rattle.order.specs.Order.{mark};
 ghost use Rattle.room.specs.declared.Mode.{Mode};

@@ -1,4 +1,6 @@
 // The protocol, record by record: whether a record may go, and what it does to the work room.
+#![tactic(auto)]
+
 ghost use Rattle.std.specs.Prelude.{◌≡◌, List, ◌+◌, ◌^◌, ◌<◌, length};
 ghost use Rattle.order.specs.Order.{Event};
 ghost use Rattle.logs.specs.declared.Record.TheVariants.{Idle, Mark, Send, Receipt};
@@ -11,7 +13,7 @@ use logs::{MessageNumber, Node, Record};
 use room::{Mode, mail};
 
 // The answer to a record.
-#[derive(Drop)]
+#[derive(Clone, Copy)]
 pub enum Admission {
     // It may go; the slot is where its message lies or is to lie.
     Admitted(usize),
@@ -22,7 +24,7 @@ pub enum Admission {
 // Whether the record at this place of the log may go after so many events.
 pub fn admit(event: Record, at: usize, events: usize, nodes: usize, mail: &[u16]) -> Admission
     requires at_bound { at + 3 < 2 ^ 64 }
-    requires cut_len { (cut : List Event) × (length cut ≡ events) × Mailed nodes cut mail.now }
+    requires cut_mailed { (cut : List Event) × (length cut ≡ events) × Mailed nodes cut mail.now }
     ensures { (cut : List Event) → length cut ≡ events → Mailed nodes cut mail.now
         → Judges nodes cut at event result }
 {

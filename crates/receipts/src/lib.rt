@@ -1,4 +1,6 @@
 // The step of a receipt on the work room.
+#![tactic(auto)]
+
 ghost use Rattle.std.specs.Prelude.{◌≡◌, ℕ, ◌*◌, ◌≤◌, ◌<◌, length, get_or};
 ghost use Rattle.order.specs.Order.{receipt};
 ghost use Rattle.room.specs.declared.Mode.{Mode};
@@ -17,7 +19,7 @@ pub fn receipt(
 )
     requires nodes_bound { (nodes ≤ 32) × (node.0 < nodes) × (slot < 128) }
     requires counts_len { (length counts.old ≡ 1024) × (length words.old ≡ 1056) × (length mail.old ≡ 4480) }
-    requires bound { (1 ≤ get_or mail.old (35 * slot) 0) × (get_or mail.old (35 * slot) 0 ≤ 32) }
+    requires sender_bound { (1 ≤ get_or mail.old (35 * slot) 0) × (get_or mail.old (35 * slot) 0 ≤ 32) }
     ensures received { Received nodes node.0 slot
         counts.old words.old mail.old
         counts.new words.new mail.new }

@@ -1,11 +1,13 @@
 // The work room: three slices that hold what the nodes know and the letters under way (docs/LAYOUT.md), and clearing it.
+#![tactic(auto)]
+
 pub mod mail;
 
 ghost use Rattle.std.specs.Prelude.{◌≡◌, ◌++◌, ◌≤◌, min, length, drop, replicate};
 ghost use Rattle.room.specs.Room.{Cleared};
 
 // What goes along with a message.
-#[derive(Drop)]
+#[derive(Clone, Copy)]
 pub enum Mode {
     // All counts and flags.
     Full,

@@ -5,7 +5,7 @@ ghost use Rattle.room.specs.Finding.{Finds, looked, surveyed};
 use logs::MessageNumber;
 
 // Where a letter lies.
-#[derive(Drop)]
+#[derive(Clone, Copy)]
 pub enum Found {
     // In this slot.
     In(usize),
@@ -14,7 +14,7 @@ pub enum Found {
 }
 
 // What a send has to know of the mail.
-#[derive(Drop)]
+#[derive(Clone, Copy)]
 pub struct Seen {
     // The number is in flight already.
     pub repeated: bool,

@@ -1,4 +1,6 @@
 // The step of a send on the work room.
+#![tactic(auto)]
+
 ghost use Rattle.std.specs.Prelude.{◌≡◌, ℕ, ◌≤◌, ◌<◌, length, get_or};
 ghost use Rattle.order.specs.Order.{send};
 ghost use Rattle.steps.specs.Steps.{held, Posted, Sent, Follows};
@@ -22,7 +24,7 @@ pub fn send(
 ) -> usize
     requires nodes_bound { (nodes ≤ 32) × (from.0 < nodes) × (to.0 < nodes) × (slot < 128) }
     requires counts_len { (length counts.now ≡ 1024) × (length words.now ≡ 1056) × (length mail.old ≡ 4480) }
-    requires by_index { (p : ℕ) → get_or counts.now p 0 ≤ 4096 }
+    requires counts_bound { (p : ℕ) → get_or counts.now p 0 ≤ 4096 }
     ensures sent { Sent mode nodes from.0 to.0 number.0 slot
         counts.now words.now mail.old mail.new result }
     ensures follows { Follows mode nodes (send from.0 to.0 number.0) slot
@@ -55,7 +57,7 @@ fn post(
 ) -> usize
     requires nodes_bound { (nodes ≤ 32) × (from.0 < nodes) × (to.0 < nodes) × (slot < 128) }
     requires counts_len { (length counts.now ≡ 1024) × (length words.now ≡ 1056) × (length mail.old ≡ 4480) }
-    requires by_index { (p : ℕ) → get_or counts.now p 0 ≤ 4096 }
+    requires counts_bound { (p : ℕ) → get_or counts.now p 0 ≤ 4096 }
     ensures posted { Posted nodes from.0 to.0 number.0 slot spared
         counts.now words.now mail.old mail.new }
     ensures value { result ≡ entries nodes

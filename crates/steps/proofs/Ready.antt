@@ -9,7 +9,7 @@ use native.Mathlib.Nat.{add-zero}
 use native.Mathlib.Decide.{dec_lt}
 use native.Mathlib.Omega.{arith}
 use lib.ListN.{length, get_or}
-use Rattle.order.specs.Order.{Event, idle, mark, send, receipt, node_of, Flying, flying_head, flying_tail, Allowed, Sound, sound_cons}
+use Rattle.order.specs.Order.{Event, idle, mark, send, receipt, node_of, Flying, flying_head, flying_tail, Allowed, Sound, sound_nil, sound_cons}
 use Rattle.order.proofs.Flight.{message}
 use Rattle.room.specs.declared.Mode.{Mode}
 use Rattle.room.specs.Modes.{knowledge}
@@ -24,6 +24,7 @@ use Rattle.room.proofs.Bounded.{count_bound}
 
 -- a message in flight goes between nodes of the barn
 pub flying_nodes : {n : ℕ} {cut : List Event} {m i j p : ℕ} → Sound n cut → Flying m i j cut p → (i < n) × (j < n)
+flying_nodes {n = n} {m = m} {i = i} {j = j} {p = p} sound_nil f = elim f [ ]
 flying_nodes (sound_cons h s) flying_head = (h.0, h.1)
 flying_nodes (sound_cons h s) (flying_tail d f) = flying_nodes s f
 

@@ -1,0 +1,14 @@
+-- `mail::find` meets its contract: none of the slots that were passed has the letter.
+use mathlib.Core.Path.{◌≡◌, refl}
+use mathlib.Core.Logic.{⊎_elim}
+use Prim.Native.Nat.{ℕ, ◌*◌, ◌-◌, ◌<◌, ◌≤◌}
+use native.Mathlib.Omega.{arith}
+use borrow.Author.Count.{below_none, below_more}
+use Rattle.room.specs.Finding.{Bears, finds, misses}
+use Rattle.room.proofs.mail.find.Given as goal
+
+abbrev pub invariant-loop-slot : goal.invariant-loop-slot
+invariant-loop-slot l = (l.slot ≤ 128) × (l.at ≡ 35 * l.slot) × ((t : ℕ) → t < l.slot → ¬ Bears l.mail l.number t)
+
+abbrev pub decreases-loop-slot : goal.decreases-loop-slot
+decreases-loop-slot l = 128 - l.slot

@@ -1,4 +1,6 @@
 // A mark's group in the report, from its node's row and flags.
+#![tactic(auto)]
+
 ghost use Rattle.std.specs.Prelude.{◌≡◌, false, cond, [], ◌∷◌, ◌++◌, ℕ, ◌+◌, ◌<◌, ◌≤◌, length, get_or};
 ghost use Rattle.bits.specs.Bits.{bit};
 ghost use Rattle.machine.specs.Answer.{flagged};
@@ -10,7 +12,7 @@ use logs::{MarkNumber, Node};
 // before the mark. How many bytes the group has comes back in any case.
 pub fn group(node: Node, row: &[u16], flags: u32, room: &mut [u8]) -> usize
     requires node_in_bounds { (node.0 < length row.now) × (length row.now ≤ 32) × (get_or row.now node.0 0 < 65535) }
-    requires by_index { (k : ℕ) → length row.now ≤ k → bit flags k ≡ false }
+    requires flags_bound { (k : ℕ) → length row.now ≤ k → bit flags k ≡ false }
     ensures { Written 0 (group_of (length row.now) (row_answer node.0 row.now flags))
         room.old room.new result }
 {

@@ -1,4 +1,6 @@
 // One pass over the records of a log: the work room follows them, the report is written where its room has space for it.
+#![tactic(auto)]
+
 ghost use Rattle.std.specs.Prelude.{◌≡◌, List, [], ◌∷◌, ℕ, ◌^◌, ◌<◌};
 ghost use Rattle.order.specs.Order.{Event, mark};
 ghost use Rattle.logs.specs.Record.{opening_of};
@@ -14,7 +16,7 @@ use protocol::Admission;
 use room::Mode;
 
 // What a run counts.
-#[derive(Drop)]
+#[derive(Clone, Copy)]
 pub struct Tally {
     pub events: usize,
     pub marks: usize,
@@ -26,7 +28,7 @@ pub struct Tally {
 }
 
 // How a pass ends.
-#[derive(Drop)]
+#[derive(Clone, Copy)]
 pub enum Passed {
     // All records are well; their totals.
     Whole(Tally),
@@ -35,7 +37,7 @@ pub enum Passed {
 }
 
 // How a turn ends.
-#[derive(Drop)]
+#[derive(Clone, Copy)]
 pub enum Turn {
     // The place past its record, and the totals up to there.
     Next(Cursor, Tally),
@@ -56,7 +58,7 @@ pub fn pass(
     mail: &mut [u16],
     report: &mut [u8],
 ) -> Passed
-    requires log_value { opening_of log.now ≡ Nodes nodes first }
+    requires opened { opening_of log.now ≡ Nodes nodes first }
     requires holds { Holds nodes (barn mode []) counts.old words.old mail.old }
     ensures { Passing mode log.now nodes report.old
         counts.new words.new mail.new report.new result }

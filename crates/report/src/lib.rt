@@ -1,4 +1,6 @@
 // The run: from a log's bytes to the report, with full or short messages.
+#![tactic(auto)]
+
 ghost use Rattle.std.specs.Prelude.{◌≡◌};
 ghost use Rattle.logs.specs.Record.{opening_of};
 ghost use Rattle.logs.specs.declared.Opening.TheVariants.{Nodes};
@@ -12,7 +14,7 @@ use passes::{Passed, Tally};
 use room::Mode;
 
 // The answer of a run.
-#[derive(Drop)]
+#[derive(Clone, Copy)]
 pub enum Answer {
     // 0: accepted, with the log's length and the totals.
     Accepted(usize, Tally),
@@ -121,7 +123,7 @@ fn settle(
     mail: &mut [u16],
     report: &mut [u8],
 ) -> Answer
-    requires log_value { opening_of log.now ≡ Nodes nodes first }
+    requires opened { opening_of log.now ≡ Nodes nodes first }
     requires zero { Zero counts.old words.old mail.old }
     ensures { Settles mode log.now report.old
         counts.new words.new mail.new report.new result }
@@ -146,10 +148,10 @@ fn look(
     mail: &mut [u16],
     report: &mut [u8],
 ) -> Passed
-    requires log_value { opening_of log.now ≡ Nodes nodes first }
+    requires opened { opening_of log.now ≡ Nodes nodes first }
     requires zero { Zero counts.old words.old mail.old }
     ensures looked { Looked mode log.now nodes result }
-    ensures zero_2 { Zero counts.new words.new mail.new }
+    ensures zero_again { Zero counts.new words.new mail.new }
     ensures report_unchanged { report.new ≡ report.old }
 {
     let end: usize = 0;
@@ -179,7 +181,7 @@ fn finish(
     mail: &mut [u16],
     report: &mut [u8],
 ) -> Answer
-    requires log_value { opening_of log.now ≡ Nodes nodes first }
+    requires opened { opening_of log.now ≡ Nodes nodes first }
     requires zero { Zero counts.old words.old mail.old }
     requires looked { Looked mode log.now nodes (Whole tally) }
     ensures { Settles mode log.now report.old

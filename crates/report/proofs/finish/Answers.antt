@@ -1,0 +1,16 @@
+-- `finish` meets its contract: by the test of the report room, and what the second pass leaves.
+use native.Mathlib.Omega.{arith}
+use Rattle.report.proofs.Endings.{zero_holds, settles_overlong, settles_complete}
+use borrow.Author.Rules.{rules}
+use Rattle.report.proofs.finish.Goals as goal
+
+pub returns-then-report-bytes : goal.returns-then-report-bytes
+returns-then-report-bytes c =
+    settles_overlong c.requires.looked c.if-report-bytes.true c.requires.zero
+
+pub pass-requires-clause-holds : goal.pass-requires-clause-holds
+pass-requires-clause-holds c = zero_holds c.args.mode c.requires.zero
+
+pub returns : goal.returns
+returns c =
+    settles_complete c.requires.looked (omega (arith, c.if-report-bytes.false)) c.pass.ensures

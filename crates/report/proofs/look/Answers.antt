@@ -1,0 +1,17 @@
+-- `look` meets its contract: what the pass tells does not hang on the rooms, and they are cleared.
+use mathlib.Core.Path.{◌∙◌}
+use Rattle.report.proofs.Endings.{zero_holds, zero_sizes, passing_looked, cleared_zero, none_lent}
+use borrow.Author.Rules.{rules}
+use Rattle.report.proofs.look.Goals as goal
+
+pub pass-passed-requires-clause-holds : goal.pass-passed-requires-clause-holds
+pass-passed-requires-clause-holds c = zero_holds c.args.mode c.requires.zero
+
+pub returns-clause-looked : goal.returns-clause-looked
+returns-clause-looked c = passing_looked c.pass-passed.ensures
+
+pub returns-clause-zero_again : goal.returns-clause-zero_again
+returns-clause-zero_again c =
+    let p = c.pass-passed in
+    let size = zero_sizes c.requires.zero in
+    cleared_zero (p.auto.counts ∙ size.0) (p.auto.words ∙ size.1) (p.auto.mail ∙ size.2) c.clear.ensures

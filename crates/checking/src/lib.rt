@@ -1,4 +1,6 @@
 // Whether a report is well formed, and where the groups of two marks stand in it. Any bytes are taken.
+#![tactic(auto)]
+
 ghost use Rattle.std.specs.Prelude.{◌≡◌, true, cond, suc, ltb, length};
 ghost use Rattle.shape.specs.Shape.{group_fits, mark_here};
 ghost use Rattle.checking.specs.WellFormed.{same_mark, group_place, place_among, AllGood};
@@ -9,7 +11,7 @@ use logs::{MarkNumber, Node};
 use shape::{Group, Mark};
 
 // The answer to checking a report.
-#[derive(Drop)]
+#[derive(Clone, Copy)]
 pub enum Checked {
     // It is well formed, and has so many groups.
     Good(usize),
@@ -18,7 +20,7 @@ pub enum Checked {
 }
 
 // The answer to checking a report and looking for two marks in it.
-#[derive(Drop)]
+#[derive(Clone, Copy)]
 pub enum Survey {
     // It is well formed: how many groups it has, and the places of the marks' groups, or the report's length for a mark
     // that has none.
@@ -95,10 +97,10 @@ fn same(one: Mark, other: Mark) -> bool
 fn repeated(report: &[u8], groups: usize, mark: Mark, greatest: &mut [u16]) -> bool
     requires all_good { AllGood report.now groups }
     requires greatest { Greatest report.now groups greatest.old }
-    requires groups_value { group_fits report.now (group_place report.now groups) ≡ true }
-    requires mark_value { mark ≡ mark_here report.now (group_place report.now groups) }
-    ensures value { result ≡ ltb (place_among report.now groups mark) (length report.now) }
-    ensures greatest_2 { Greatest report.now (suc groups) greatest.new }
+    requires group_fits { group_fits report.now (group_place report.now groups) ≡ true }
+    requires mark_is { mark ≡ mark_here report.now (group_place report.now groups) }
+    ensures found { result ≡ ltb (place_among report.now groups mark) (length report.now) }
+    ensures greatest { Greatest report.now (suc groups) greatest.new }
 {
     let node = mark.node.0 as usize;
     if greatest[node] < mark.number.0 {

@@ -1,4 +1,6 @@
 // Comparing two marks of a report. Any bytes and any marks are taken, and nothing is written.
+#![tactic(auto)]
+
 ghost use Rattle.std.specs.Prelude.{◌≡◌, ◌≤◌, length};
 ghost use Rattle.reading.specs.Reading.{stamp_at};
 ghost use Rattle.comparing.specs.Compare.{compared, ordered};
@@ -9,7 +11,7 @@ use shape::Mark;
 
 // The answer to comparing two marks, by their stamps. In the report of an accepted log, before says that the first mark led to the
 // second.
-#[derive(Drop)]
+#[derive(Clone, Copy)]
 pub enum Compared {
     // No count of the first stamp exceeds the second's, and some count differs.
     Before,

@@ -1,9 +1,11 @@
 // The reader of a report, record by record: what stands at a place. Every function takes any bytes.
+#![tactic(auto)]
+
 ghost use Rattle.std.specs.Prelude.{◌≡◌, ◌+◌, ◌≤◌, ◌<◌, length};
 ghost use Rattle.reading.specs.Reading.{number_at, whole_at, stamp_here, count_at, past_count};
 
 // A node's count in a stamp, and the place past it.
-#[derive(Drop)]
+#[derive(Clone, Copy)]
 pub struct Count {
     pub count: u16,
     pub past: usize,

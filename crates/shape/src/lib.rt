@@ -1,4 +1,6 @@
 // The shape of one group of a report: which mark it is of and where it ends, or that it breaks a rule. Any bytes are taken.
+#![tactic(auto)]
+
 ghost use Rattle.std.specs.Prelude.{◌≡◌, true, cond, ◌&&◌, ◌+◌, ◌*◌, ◌≤◌, ◌<◌, eqb, length};
 ghost use Rattle.reading.specs.Reading.{stamp_place, stamp_at};
 ghost use Rattle.shape.specs.declared.Reach.TheVariants.{Past, Broken};
@@ -8,14 +10,14 @@ ghost use Rattle.shape.specs.Reaching.{body_seen};
 use logs::{MarkNumber, Node};
 
 // A mark: its node, and its number among the marks of that node.
-#[derive(Drop)]
+#[derive(Clone, Copy, Drop)]
 pub struct Mark {
     pub node: Node,
     pub number: MarkNumber,
 }
 
 // The answer to reading the group at a place.
-#[derive(Drop)]
+#[derive(Clone, Copy)]
 pub enum Group {
     // The group of this mark, and the place past it.
     Good(Mark, usize),
@@ -26,7 +28,7 @@ pub enum Group {
 }
 
 // How far a part of a group reaches.
-#[derive(Drop)]
+#[derive(Clone, Copy)]
 pub enum Reach {
     // The place past it.
     Past(usize),

@@ -1,10 +1,10 @@
--- What the walks of this crate have in common: the types of a lent report and of a view, at the one lifetime of a signature, that what each owns is had twice, since both are Copy, and that their machine values are of their types.
+-- The types of a lent report and of a view, at the one lifetime of a signature: that what each owns is had twice, since both are Copy, and that their machine values are of their types.
 -- Assumes nothing.
 use Prim.Native.Nat.{ℕ}
 use mathlib.Core.List.{List, [], ◌∷◌}
 use lib.ListN.{length}
 use seplogic.Ra.Ura.{Ura}
-use mir.Syntax.{named}
+use mir.Syntax.{named, w8}
 use mir.Val.{Val}
 use base.Logic.{ent, sep}
 use base.Fml.{Lft, Fml}
@@ -12,6 +12,7 @@ use types.Logic.{Logic, sem}
 use denote.RattleType.{RattleType}
 use denote.Laws.{Is, Typed}
 use denote.Builtin.{u8}
+use denote.Plain.{uint_row_laws}
 use denote.Ref.{Bor, NamedLft}
 use denote.Signature.{named_lft}
 use denote.Slice.{slice_val, ShrSlice, shr_slice_Lawful, shr_slice_copy}
@@ -59,7 +60,7 @@ view_own κ d = (view_row κ).own_val d (view_val d ∷ [])
 module _ {M : Type 1} {𝓤 : Ura M} (𝓛 : Logic 𝓤) (κ : Lft) where
   -- what a report owns is had twice
   pub report_twice : (s : Bor (List ℕ)) → ent 𝓤 (sem 𝓛 (report_own κ s)) (sep 𝓤 (sem 𝓛 (report_own κ s)) (sem 𝓛 (report_own κ s)))
-  report_twice s = (shr_slice_copy 𝓛 (named 0) κ u8).twice s (report_val s ∷ [])
+  report_twice s = (shr_slice_copy 𝓛 (named 0) κ u8 (uint_row_laws w8)).twice s (report_val s ∷ [])
 
   -- its machine value is of its type
   pub report_typed : (s : Bor (List ℕ)) → Is (report_row κ) s (report_val s ∷ []) → Typed (report_row κ).mir (report_val s ∷ [])

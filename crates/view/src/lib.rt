@@ -1,12 +1,14 @@
 // The view of a report: the lent report and the place reached in it. Its functions take it apart and leave the work to
 // `shape::look`, which takes a slice and a place.
+#![tactic(auto)]
+
 ghost use Rattle.std.specs.Prelude.{◌≡◌};
 ghost use Rattle.shape.specs.Shape.{group_seen};
 
 use shape::Group;
 
 // A report, and the place that is reached in it.
-#[derive(Drop)]
+#[derive(Clone, Copy)]
 pub struct View<'a> {
     pub report: &'a [u8],
     pub at: usize,

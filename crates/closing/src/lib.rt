@@ -1,5 +1,7 @@
 // The line that ends the program's text: the totals, a refusal, or that the input is too long. Each is laid over the front of a
 // room; the number of its bytes comes back.
+#![tactic(auto)]
+
 ghost use Rattle.std.specs.Prelude.{◌≡◌, length};
 ghost use Rattle.groups.specs.Groups.{Laid};
 ghost use Rattle.closing.specs.Closing.{ok_line, refused_line, too_long};

@@ -1,4 +1,6 @@
 // The name of each number that is answered, as text for C.
+#![tactic(auto)]
+
 ghost use Rattle.std.specs.Prelude.{◌≤◌};
 ghost use Rattle.naming.specs.Names.{Named, name_of};
 

@@ -1,4 +1,6 @@
 // The program's text: a line for each mark of a report.
+#![tactic(auto)]
+
 ghost use Rattle.std.specs.Prelude.{◌≡◌, true, ◌∷◌, ℕ, ◌+◌, ◌*◌, ◌≤◌, ◌<◌, length};
 ghost use Rattle.groups.specs.Groups.{Laid};
 ghost use Rattle.words.specs.Words.{decimal};
@@ -10,7 +12,7 @@ ghost use Rattle.text.specs.Text.{name_text, stamp_text, causes_text, nearest_te
 use shape::Group;
 
 // The answer to writing the line of a mark.
-#[derive(Drop)]
+#[derive(Clone, Copy)]
 pub enum Line {
     // How many bytes the line has, and the place past the group.
     Written(usize, usize),

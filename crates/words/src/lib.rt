@@ -1,4 +1,6 @@
 // Words and numbers laid over a room, one behind the other.
+#![tactic(auto)]
+
 ghost use Rattle.std.specs.Prelude.{◌+◌, ◌≤◌, ◌<◌, [], ◌∷◌, length};
 ghost use Rattle.groups.specs.Groups.{Laid};
 ghost use Rattle.words.specs.Words.{digit, decimal, counted};

@@ -1,11 +1,10 @@
 -- 01's rows marked P: one table of logs, what a run of each answers and reports, in either mode, what each short message carries
--- and what comparing marks of the report says, computed over the definitions; and what it says of every run that keeps the promise.
+-- and what comparing marks of the report says, computed over the definitions.
 -- Assumes nothing.
-use mathlib.Core.Path.{◌≡◌, refl, sym, ◌∙◌, ap}
+use mathlib.Core.Path.{◌≡◌, refl}
 use mathlib.Core.Bool.{true}
-use mathlib.Core.List.{List, [], ◌∷◌, map, Memᴰ}
+use mathlib.Core.List.{List, [], ◌∷◌, map}
 use Prim.Native.Nat.{ℕ}
-use lib.ListN.{length}
 use Rattle.order.specs.Flight.{without, in_flight}
 use Rattle.logs.specs.Record.{whole_at, record_at, opening_of}
 use Rattle.verdict.specs.Verdict.{rules, walk, verdict}
@@ -17,14 +16,10 @@ use Rattle.machine.proofs.Cases.{loads}
 use Rattle.room.specs.declared.Mode.{Mode}
 use Rattle.room.specs.declared.Mode.TheVariants.{Full, Short}
 use Rattle.room.specs.Modes.{says}
-use Rattle.groups.specs.Groups.{stamp_record, stamp_records, cause_records, group_of, groups_of, laid}
-use Rattle.passes.specs.declared.Tally.{Tally}
-use Rattle.report.specs.declared.Answer.{Answer}
+use Rattle.groups.specs.Groups.{stamp_record, stamp_records, cause_records, group_of, groups_of}
 use Rattle.passes.specs.Report.{report_of, tally_of, bytes_alone}
-use Rattle.report.specs.Run.{Ending, cramped, refusal, overlong, complete, settled, ending, number_of, place_of, totals_of, Ran}
-use Rattle.demands.specs.Demands.{Roomy}
-use Rattle.demands.proofs.Refusals.{laid_front}
-use Rattle.demands.proofs.Seen.{Seen, reported, seen, seen_run, bytes_reported, two_marks, two_report}
+use Rattle.report.specs.Run.{Ending, cramped, refusal, overlong, complete, settled, ending}
+use Rattle.demands.proofs.Seen.{Seen, seen, two_marks, two_report}
 use Rattle.reading.specs.Reading.{stamp_here, count_at, past_count, stamp_place, stamp_at}
 use Rattle.reading.specs.Reading as reading
 use Rattle.shape.specs.declared.Mark.{Mark}
@@ -35,7 +30,6 @@ use Rattle.comparing.specs.declared.Compared.{Compared}
 use Rattle.comparing.specs.declared.Compared.TheVariants.{Apart}
 use Rattle.comparing.specs.Compare.{exceeds, differs, ordered, compared_at, compared_in, compared}
 use Rattle.text.proofs.Samples.{report_a}
-use Rattle.comparisons.specs.OwnReport.{own_report}
 
 -- ---- the table
 
@@ -142,46 +136,3 @@ pub cases_hold : (map (λ c. seen Full c.log c.room) cases ≡ map (expected Ful
     × (map (λ c. each_carries (ending c.log true c.room)) cases ≡ map (λ c. c.carried) cases)
 unfolding each_carries loads compared_in compared_at ordered exceeds differs checked walked good_group place_among group_place same_mark mark_here group_fits head_fits mark_fits stamp_kept causes_kept causes_fit stamp_fits stamp_ends entry_fits in_range past_group stamp_at stamp_place past_count count_at stamp_here reading.whole_at verdict walk rules record_at opening_of whole_at in_flight without settled ending tally_of report_of says answers answer flagged weight entries more totals full whole step start marked received meet take_count take_flag put short brief offer note learn_columns stamp_record stamp_records cause_records group_of groups_of
 cases_hold = (refl, refl, refl, refl, refl)
-
--- ---- and every run shows it
-
--- lists that two functions make the same have elements that they make the same
-map_same : {A B : Type 0} (f g : A → B) (xs : List A) → map f xs ≡ map g xs → {x : A} → Memᴰ x xs → f x ≡ g x
-map_same f g (y ∷ ys) h (Memᴰ.head e) = rw e (cc)
-map_same f g (y ∷ ys) h (Memᴰ.tail m) = map_same f g ys (cc) m
-
-case_holds : (mode : Mode) {c : Case} → Memᴰ c cases → seen mode c.log c.room ≡ expected mode c
-case_holds Full m = map_same (λ c. seen Full c.log c.room) (expected Full) cases cases_hold.0 m
-case_holds Short m = map_same (λ c. seen Short c.log c.room) (expected Short) cases cases_hold.1 m
-
--- Every run of a row's log in that mode, in work rooms that are large enough and a report room of the row's size, answers with the
--- row's number, place and totals, lays the row's report over the front of the report room, and leaves the rest of it.
-pub cases_run : {mode : Mode} {c : Case} {counts words mail report counts' words' mail' report' : List ℕ} {r : Answer}
-    → Memᴰ c cases → Roomy counts words mail → length report ≡ c.room
-    → Ran mode c.log counts words mail report counts' words' mail' report' r
-    → (number_of r ≡ (expected mode c).number) × (place_of r ≡ (expected mode c).place) × (totals_of r ≡ (expected mode c).totals)
-    × (report' ≡ laid 0 (expected mode c).report report)
-cases_run {mode} m roomy size ran = rw (← case_holds mode m, ← size) (seen_run roomy ran)
-
--- ---- comparing in the report that a run left
-
-pair_holds : (mode : Mode) {c : Case} {x : Pair} → Memᴰ c cases → Memᴰ x c.pairs
-    → compared (seen mode c.log c.room).report x.first x.second ≡ x.answer
-pair_holds mode {c} m n =
-    map_same (λ x. compared (seen mode c.log c.room).report x.first x.second) (λ x. x.answer) c.pairs (go mode) n
-  where
-    go : (mode : Mode) → told mode c ≡ wanted c
-    go Full = map_same (told Full) wanted cases cases_hold.2 m
-    go Short = map_same (told Short) wanted cases cases_hold.3 m
-
--- In the report that an accepted run of a row's log left, comparing the row's marks says what the row says.
-pub cases_compared : {mode : Mode} {c : Case} {x : Pair} {counts words mail report counts' words' mail' report' : List ℕ} {r : Answer}
-    → Memᴰ c cases → Memᴰ x c.pairs → Roomy counts words mail → length report ≡ c.room
-    → Ran mode c.log counts words mail report counts' words' mail' report' r → number_of r ≡ 0
-    → compared (own_report r report') x.first x.second ≡ x.answer
-cases_compared {mode} {c} {report = report} {report' = report'} {r = r} m n roomy size ran here =
-    let e = ending c.log true (length report) in
-    let (number, place, totals, laid-there) = seen_run roomy ran in
-    let bytes : (totals_of r).bytes ≡ length (reported e) = ap (λ (t : Tally). t.bytes) totals ∙ bytes_reported mode c.log e (sym number ∙ here) in
-    let left : own_report r report' ≡ reported e = rw (bytes, laid-there) (laid_front (reported e) report) in
-    rw (left, size) (pair_holds mode m n)

@@ -7,3 +7,4 @@ pub mod OwnReport
 pub mod RunCompared
 pub mod OwnLines
 pub mod Cases
+pub mod CaseRuns

@@ -38,7 +38,7 @@ at_listed (a ∷ rest) zero h = Memᴰ.head refl
 at_listed (a ∷ rest) (suc j) h = Memᴰ.tail (at_listed rest j (omega arith))
 
 -- and each that is listed has a place
-listed_at : {told : List Answer} {a : Answer} → Memᴰ a told → (j : ℕ) × (j < length told) × (answer_in told j ≡ a)
+listed_at : {a : Answer} {told : List Answer} → Memᴰ a told → (j : ℕ) × (j < length told) × (answer_in told j ≡ a)
 listed_at (Memᴰ.head e) = (0, omega arith, sym e)
 listed_at (Memᴰ.tail m) = let (j, h, e) = listed_at m in (suc j, omega arith, e)
 

@@ -21,7 +21,7 @@ use Rattle.demands.proofs.Refusals.{laid_front, run_completed, run_with, report_
 use Rattle.demands.proofs.ListedMarks.{marks_listed, each_partner, answers_right, answers_only}
 
 -- the group of an answer stands among the groups
-groups_part : (n : ℕ) {told : List Answer} {a : Answer} → Memᴰ a told → (front behind : List ℕ) × (groups_of n told ≡ front ++ (group_of n a ++ behind))
+groups_part : (n : ℕ) {a : Answer} {told : List Answer} → Memᴰ a told → (front behind : List ℕ) × (groups_of n told ≡ front ++ (group_of n a ++ behind))
 unfolding groups_of
 groups_part n (Memᴰ.head {xs = xs} e) = ([], groups_of n xs, rw e refl)
 groups_part n (Memᴰ.tail {x = x} m) =

@@ -1,1 +1,2 @@
 // The three demands, from the promise of a run alone. No code.
+#![tactic(auto)]

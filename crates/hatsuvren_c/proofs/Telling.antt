@@ -1,6 +1,6 @@
 -- What a caller is told: numbers stored in an array that has as many are the array, and a mode's number asks for one thing.
 -- Assumes nothing.
-use mathlib.Core.Path.{◌≡◌, refl, sym, ap, ◌∙◌}
+use mathlib.Core.Path.{◌≡◌, refl, ap, ◌∙◌}
 use mathlib.Core.Logic.{◌≢◌}
 use mathlib.Core.List.{List, ◌++◌, append-nil}
 use Prim.Native.Nat.{ℕ, ◌+◌}
@@ -11,7 +11,7 @@ use borrow.Author.Tests.{ne_eqb}
 use Rattle.room.specs.declared.Mode.TheVariants.{Full, Short}
 use Rattle.comparing.specs.declared.Compared.{Compared}
 use Rattle.comparing.specs.Compare.{number_of, place_of}
-use Rattle.hatsuvren_c.specs.Calls.{Asked, known, unknown, asked, order_of, ComparedTold}
+use Rattle.hatsuvren_c.specs.Calls.{known, unknown, asked, order_of, ComparedTold}
 
 -- as many numbers stored as an array has, from its front on, are the array
 pub all_stored : (values array : List ℕ) → length array ≡ length values → sets array 0 values ≡ values
@@ -37,4 +37,4 @@ asked_short is = rw is refl
 
 pub asked_unknown : {mode : ℕ} → mode ≢ 0 → mode ≢ 1 → asked mode ≡ unknown
 unfolding asked
-asked_unknown {mode} not_full not_IsShort = rw (ne_eqb mode 0 not_full, ne_eqb mode 1 not_IsShort) refl
+asked_unknown {mode} not_full not_short = rw (ne_eqb mode 0 not_full, ne_eqb mode 1 not_short) refl

@@ -1,5 +1,7 @@
 // The calls for programs in C and Rust: a run, a comparison, the sizes of the work room and the names of the numbers. Every
 // argument is a number, or a place in memory with its length, and every answer is numbers (include/hatsuvren.h).
+#![tactic(auto)]
+
 ghost use Rattle.std.specs.Prelude.{◌≡◌, length};
 ghost use Rattle.comparing.specs.Compare.{compared};
 ghost use Rattle.passes.specs.Report.{bytes_alone};

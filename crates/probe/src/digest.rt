@@ -3,7 +3,7 @@ ghost use Rattle.std.specs.Prelude.{◌≡◌, ◌/◌, ◌%◌};
 ghost use Rattle.probe.specs.Digests.{stirred, digest_of, bytes_of_halves, bytes_of_words};
 
 // Two sums that a byte stirs.
-#[derive(Drop)]
+#[derive(Clone, Copy)]
 pub struct Digest {
     pub x: u32,
     pub y: u32,

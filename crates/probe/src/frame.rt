@@ -6,7 +6,7 @@ use room::Mode;
 use shape::Mark;
 
 // A question to run a log: the lengths of the rooms and of the log that follows.
-#[derive(Drop)]
+#[derive(Clone, Copy)]
 pub struct Run {
     pub mode: Mode,
     pub counts: usize,
@@ -17,7 +17,7 @@ pub struct Run {
 }
 
 // A question to compare two marks, and the length of the report that follows.
-#[derive(Drop)]
+#[derive(Clone, Copy)]
 pub struct Compare {
     pub first: Mark,
     pub second: Mark,
@@ -25,7 +25,7 @@ pub struct Compare {
 }
 
 // What a header asks.
-#[derive(Drop)]
+#[derive(Clone, Copy)]
 pub enum Question {
     // To run a log.
     Run(Run),

@@ -3,74 +3,89 @@ ghost use Rattle.std.specs.Prelude.{◌≡◌, ◌+◌, ◌*◌, ◌≤◌, ◌<
 
 use crate::{named, say, trial};
 use room::Mode;
+use std::io;
 
 // All of them.
-pub fn all(mode: Mode) {
-    events(mode);
-    one_more(mode);
-    others(mode);
-    flights(mode);
+pub fn all(rt: &impl Print, mode: Mode) -> io::Result<()> {
+    events(rt, mode)?;
+    one_more(rt, mode)?;
+    others(rt, mode)?;
+    flights(rt, mode)
 }
 
 // As many events as a log may have, and more.
-fn events(mode: Mode) {
-    say::text(b"4096 idle");
-    long(mode, 0x11, 8194, 8194, 0x11);
-    say::text(b"4097 idle");
-    long(mode, 0x11, 8196, 8194, 0x11);
-    told(mode);
+fn events(rt: &impl Print, mode: Mode) -> io::Result<()> {
+    say::text(rt, b"4096 idle")?;
+    long(rt, mode, 0x11, 8194, 8194, 0x11)?;
+    say::text(rt, b"4097 idle")?;
+    long(rt, mode, 0x11, 8196, 8194, 0x11)?;
+    told(rt, mode)
 }
 
 // A 4,097th event with another fault. An unknown kind and a cut come first; a node too high, a send to its sender and a receipt of a
 // number not in flight come behind.
-fn one_more(mode: Mode) {
-    changed(mode, 0x11, 8196, 8194, 0x15);
-    changed(mode, 0x11, 8195, 8194, 0x11);
-    changed(mode, 0x11, 8196, 8195, 0xFF);
-    changed(mode, 0x11, 8199, 8194, 0x13);
-    changed(mode, 0x11, 8198, 8194, 0x14);
+fn one_more(rt: &impl Print, mode: Mode) -> io::Result<()> {
+    changed(rt, mode, 0x11, 8196, 8194, 0x15)?;
+    changed(rt, mode, 0x11, 8195, 8194, 0x11)?;
+    changed(rt, mode, 0x11, 8196, 8195, 0xFF)?;
+    changed(rt, mode, 0x11, 8199, 8194, 0x13)?;
+    changed(rt, mode, 0x11, 8198, 8194, 0x14)
 }
 
 // 1,260 marks, as many as the report room holds, 1,261 and 4,096; an idle event cut short, and one of node 32.
-fn others(mode: Mode) {
-    changed(mode, 0x12, 2522, 2, 0x12);
-    changed(mode, 0x12, 2524, 2, 0x12);
-    changed(mode, 0x12, 8194, 2, 0x12);
-    changed(mode, 0x11, 3, 2, 0x11);
-    changed(mode, 0x11, 4, 3, 0x20);
+fn others(rt: &impl Print, mode: Mode) -> io::Result<()> {
+    changed(rt, mode, 0x12, 2522, 2, 0x12)?;
+    changed(rt, mode, 0x12, 2524, 2, 0x12)?;
+    changed(rt, mode, 0x12, 8194, 2, 0x12)?;
+    changed(rt, mode, 0x11, 3, 2, 0x11)?;
+    changed(rt, mode, 0x11, 4, 3, 0x20)
 }
 
 // A send from node 17 to node 18, and then 4,096 idle events.
-fn told(mode: Mode) {
+fn told(rt: &impl Print, mode: Mode) -> io::Result<()> {
     let mut log = row(0x11);
     log[2] = 0x13;
     log[4] = 0x12;
-    named(mode, b"a send and 4096 idle", &log);
+    named(rt, mode, b"a send and 4096 idle", &log)
 }
 
 // A long row of one kind up to a place, with one byte changed, and its name.
-fn changed(mode: Mode, kind: u8, end: usize, place: usize, value: u8)
+fn changed(
+    rt: &impl Print,
+    mode: Mode,
+    kind: u8,
+    end: usize,
+    place: usize,
+    value: u8,
+) -> io::Result<()>
     requires end_bound { end ≤ 8199 }
     requires place_bound { place < 8199 }
 {
-    say::text(b"kind");
-    say::byte(kind);
-    say::text(b" to");
-    say::number(end);
+    say::text(rt, b"kind")?;
+    say::byte(rt, kind)?;
+    say::text(rt, b" to")?;
+    say::number(rt, end)?;
     if value != kind {
-        say::with(value, place);
+        say::with(rt, value, place)?;
     }
-    long(mode, kind, end, place, value);
+    long(rt, mode, kind, end, place, value)
 }
 
 // The same without its name.
-fn long(mode: Mode, kind: u8, end: usize, place: usize, value: u8)
+fn long(
+    rt: &impl Print,
+    mode: Mode,
+    kind: u8,
+    end: usize,
+    place: usize,
+    value: u8,
+) -> io::Result<()>
     requires end_bound { end ≤ 8199 }
     requires place_bound { place < 8199 }
 {
     let mut log = row(kind);
     log[place] = value;
-    trial::usual(mode, &log, end);
+    trial::usual(rt, mode, &log, end)
 }
 
 // A log of 32 nodes. All bytes behind its first record are one kind, so each record is of that kind, and of the node of that
@@ -85,21 +100,21 @@ fn row(kind: u8) -> [u8; 8199]
 }
 
 // As many messages in flight as there may be, and more.
-fn flights(mode: Mode) {
-    say::text(b"128 in flight");
-    flight(mode, 642, 128, 642);
-    say::text(b"a 129th");
-    flight(mode, 642, 128, 647);
-    say::text(b"a 129th of a number in flight");
-    flight(mode, 642, 127, 647);
-    say::text(b"one received, then the 129th");
-    flight(mode, 646, 128, 651);
-    say::text(b"one received, then the 129th and a 130th");
-    flight(mode, 646, 128, 656);
+fn flights(rt: &impl Print, mode: Mode) -> io::Result<()> {
+    say::text(rt, b"128 in flight")?;
+    flight(rt, mode, 642, 128, 642)?;
+    say::text(rt, b"a 129th")?;
+    flight(rt, mode, 642, 128, 647)?;
+    say::text(rt, b"a 129th of a number in flight")?;
+    flight(rt, mode, 642, 127, 647)?;
+    say::text(rt, b"one received, then the 129th")?;
+    flight(rt, mode, 646, 128, 651)?;
+    say::text(rt, b"one received, then the 129th and a 130th")?;
+    flight(rt, mode, 646, 128, 656)
 }
 
 // 128 sends and two more from a place and a number on, up to an end. The place is 642 or, behind a receipt of the first, 646.
-fn flight(mode: Mode, place: usize, number: u8, end: usize)
+fn flight(rt: &impl Print, mode: Mode, place: usize, number: u8, end: usize) -> io::Result<()>
     requires place_bound { place ≤ 646 }
     requires number_bound { number ≤ 128 }
     requires end_bound { end ≤ 656 }
@@ -111,7 +126,7 @@ fn flight(mode: Mode, place: usize, number: u8, end: usize)
     log[643] = 0x01;
     put_sends(&mut log, 2, 0, 128);
     put_sends(&mut log, place, number, number + 2);
-    trial::usual(mode, &log, end);
+    trial::usual(rt, mode, &log, end)
 }
 
 // Sends of the numbers from one to another, from node 0 to node 1.

@@ -1,7 +1,7 @@
 // What a run leaves in its rooms, seen against the pattern that they were filled with.
 
 // What stands in a part of a room.
-#[derive(Drop)]
+#[derive(Clone, Copy)]
 pub enum State {
     // The pattern everywhere.
     Untouched,

@@ -13,6 +13,8 @@
 // What must come out is in the file stdout. It is not taken from this program: numbers, places, totals, reports and rooms follow
 // from 01 ("Refusal numbers", "Logs to try") and from arithmetic on its layouts, and were held against the answers of the program in
 // oracle/, which builds the order of events itself.
+#![tactic(auto)]
+
 mod bounds;
 mod left;
 mod log_a;
@@ -20,39 +22,42 @@ mod say;
 mod trial;
 
 use room::Mode;
+use std::io;
 
 // All cases, in both modes.
-fn main() {
-    all(Mode::Full);
-    all(Mode::Short);
+fn main(rt: HostRuntime) -> io::Result<()> {
+    all(&rt, Mode::Full)?;
+    all(&rt, Mode::Short)
 }
 
 // All cases, in one mode.
-fn all(mode: Mode) {
-    few(mode);
-    log_a::all(mode);
-    bounds::all(mode);
+fn all(rt: &impl Print, mode: Mode) -> io::Result<()> {
+    few(rt, mode)?;
+    log_a::all(rt, mode)?;
+    bounds::all(rt, mode)
 }
 
 // 32 nodes, two marks of one node, log B, and the highest node that tells the lowest, with the highest number.
-fn few(mode: Mode) {
-    named(mode, b"32 nodes", b"\x10\x20");
-    named(mode, b"mark 2 from mark 1", b"\x10\x01\x12\x00\x12\x00");
+fn few(rt: &impl Print, mode: Mode) -> io::Result<()> {
+    named(rt, mode, b"32 nodes", b"\x10\x20")?;
+    named(rt, mode, b"mark 2 from mark 1", b"\x10\x01\x12\x00\x12\x00")?;
     named(
+        rt,
         mode,
         b"B",
         b"\x10\x02\x12\x00\x13\x00\x01\x01\x00\x14\x01\x01\x00\x13\x01\x00\x02\x00\x12\x01\
           \x13\x01\x00\x03\x00\x14\x00\x03\x00\x12\x00\x14\x00\x02\x00",
-    );
+    )?;
     named(
+        rt,
         mode,
         b"node 31 tells node 0",
         b"\x10\x20\x12\x1F\x13\x1F\x00\xFF\xFF\x14\x00\xFF\xFF\x12\x00",
-    );
+    )
 }
 
 // A log and its name.
-fn named(mode: Mode, name: &[u8], log: &[u8]) {
-    say::text(name);
-    trial::usual(mode, log, log.len());
+fn named(rt: &impl Print, mode: Mode, name: &[u8], log: &[u8]) -> io::Result<()> {
+    say::text(rt, name)?;
+    trial::usual(rt, mode, log, log.len())
 }

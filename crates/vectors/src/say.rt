@@ -1,81 +1,82 @@
 // The words and numbers of a line.
 use crate::left::State;
-use libc::STDOUT_FILENO;
 use report::Answer;
 use room::Mode;
+use std::io;
 
 // A text as it stands.
-pub fn text(words: &[u8]) {
-    io::write_all(STDOUT_FILENO, words);
+pub fn text(rt: &impl Print, words: &[u8]) -> io::Result<()> {
+    rt.write_all(words)
 }
 
 // A sign.
-pub fn sign(sign: u8) {
-    text(&[sign]);
+pub fn sign(rt: &impl Print, sign: u8) -> io::Result<()> {
+    text(rt, &[sign])
 }
 
 // A space and a number.
-pub fn number(value: usize) {
-    sign(b' ');
-    io::print_decimal(STDOUT_FILENO, value as u64);
+pub fn number(rt: &impl Print, value: usize) -> io::Result<()> {
+    sign(rt, b' ')?;
+    rt.print(value)
 }
 
 // The mode of a run and its answer: number, place, events, marks, sends, carried entries and report bytes.
-pub fn answer(mode: Mode, answer: Answer) {
+pub fn answer(rt: &impl Print, mode: Mode, answer: Answer) -> io::Result<()> {
     match mode {
-        Mode::Full => text(b", full:"),
-        Mode::Short => text(b", short:"),
+        Mode::Full => text(rt, b", full:")?,
+        Mode::Short => text(rt, b", short:")?,
     }
     let totals = answer.totals();
-    number(answer.number() as usize);
-    number(answer.place());
-    number(totals.events);
-    number(totals.marks);
-    number(totals.sends);
-    number(totals.carried);
-    number(totals.bytes);
+    number(rt, answer.number() as usize)?;
+    number(rt, answer.place())?;
+    number(rt, totals.events)?;
+    number(rt, totals.marks)?;
+    number(rt, totals.sends)?;
+    number(rt, totals.carried)?;
+    number(rt, totals.bytes)
 }
 
 // What a part of a room holds.
-pub fn state(state: State) {
+pub fn state(rt: &impl Print, state: State) -> io::Result<()> {
     match state {
-        State::Untouched => text(b" untouched"),
-        State::Zero => text(b" zero"),
-        State::Used => text(b" used"),
+        State::Untouched => text(rt, b" untouched"),
+        State::Zero => text(rt, b" zero"),
+        State::Used => text(rt, b" used"),
     }
 }
 
 // What stands in a report room up to where it was written: nothing, the bytes of a short report, or how far a long one reaches.
-pub fn report(room: &[u8], end: usize) {
+pub fn report(rt: &impl Print, room: &[u8], end: usize) -> io::Result<()> {
     if end == 0 {
-        state(State::Untouched);
+        state(rt, State::Untouched)
     } else if end <= 64 {
-        bytes(room, end);
+        bytes(rt, room, end)
     } else {
-        text(b" to");
-        number(end);
+        text(rt, b" to")?;
+        number(rt, end)
     }
 }
 
 // The bytes of a room up to a place, in two digits each.
-fn bytes(room: &[u8], end: usize) {
+fn bytes(rt: &impl Print, room: &[u8], end: usize) -> io::Result<()> {
     let mut k = 0;
     while k < end && k < room.len() {
-        byte(room[k]);
+        byte(rt, room[k])?;
         k += 1;
     }
+    Ok(())
 }
 
 // A space and a byte in two digits.
-pub fn byte(value: u8) {
-    sign(b' ');
-    io::print_hex(STDOUT_FILENO, value as u64, 2);
+pub fn byte(rt: &impl Print, value: u8) -> io::Result<()> {
+    sign(rt, b' ')?;
+    print!(rt; "{value:02x}")
 }
 
 // A byte and its place.
-pub fn with(value: u8, place: usize) {
-    text(b" with");
-    byte(value);
-    text(b" at");
-    number(place);
+pub fn with(rt: &impl Print, value: u8, place: usize) -> io::Result<()> {
+    text(rt, b" with")?;
+    byte(rt, value)?;
+    text(rt, b" at")?;
+    number(rt, place)
 }

@@ -3,16 +3,18 @@ ghost use Rattle.std.specs.Prelude.{◌≤◌, length};
 
 use crate::{left, say};
 use room::Mode;
+use std::io;
 
 // Runs a log in work rooms with something behind their fixed sizes, and in the report room of the program.
-pub fn usual(mode: Mode, log: &[u8], end: usize)
+pub fn usual(rt: &impl Print, mode: Mode, log: &[u8], end: usize) -> io::Result<()>
     requires { end ≤ length log.now }
 {
-    trial(mode, log, end, 1040, 1072, 4496, 16384);
+    trial(rt, mode, log, end, 1040, 1072, 4496, 16384)
 }
 
 // Runs a log up to a place, in rooms of so many elements, and prints the line behind the name of the case.
 pub fn trial(
+    rt: &impl Print,
     mode: Mode,
     log: &[u8],
     end: usize,
@@ -20,7 +22,7 @@ pub fn trial(
     words: usize,
     mail: usize,
     report: usize,
-)
+) -> io::Result<()>
     requires end_in_bounds { end ≤ length log.now }
     requires counts_bound { (counts ≤ 1040) × (words ≤ 1072) × (mail ≤ 4496) × (report ≤ 16400) }
 {
@@ -36,22 +38,28 @@ pub fn trial(
         &mut mail_room[..mail],
         &mut report_room[..report],
     );
-    say::answer(mode, answer);
-    say_left(&count_room, &word_room, &mail_room, &report_room);
+    say::answer(rt, mode, answer)?;
+    say_left(rt, &count_room, &word_room, &mail_room, &report_room)
 }
 
 // The end of the line: what the run left in the front of each work room and behind it, and the report.
-fn say_left(counts: &[u16], words: &[u32], mail: &[u16], report: &[u8]) {
-    say::sign(b';');
-    say::state(left::part16(counts, 0, 1024));
-    say::state(left::part16(counts, 1024, 1040));
-    say::sign(b',');
-    say::state(left::part32(words, 0, 1056));
-    say::state(left::part32(words, 1056, 1072));
-    say::sign(b',');
-    say::state(left::part16(mail, 0, 4480));
-    say::state(left::part16(mail, 4480, 4496));
-    say::sign(b';');
-    say::report(report, left::reach(report));
-    say::sign(b'\n');
+fn say_left(
+    rt: &impl Print,
+    counts: &[u16],
+    words: &[u32],
+    mail: &[u16],
+    report: &[u8],
+) -> io::Result<()> {
+    say::sign(rt, b';')?;
+    say::state(rt, left::part16(counts, 0, 1024))?;
+    say::state(rt, left::part16(counts, 1024, 1040))?;
+    say::sign(rt, b',')?;
+    say::state(rt, left::part32(words, 0, 1056))?;
+    say::state(rt, left::part32(words, 1056, 1072))?;
+    say::sign(rt, b',')?;
+    say::state(rt, left::part16(mail, 0, 4480))?;
+    say::state(rt, left::part16(mail, 4480, 4496))?;
+    say::sign(rt, b';')?;
+    say::report(rt, report, left::reach(report))?;
+    say::sign(rt, b'\n')
 }

@@ -1,0 +1,10 @@
+-- `digest::of_words` meets its contract: the digest so far, stirred with what is left of the room, is the digest of the room.
+use Rattle.std.proofs.Common.{length, ◌-◌, ◌≡◌, drop}
+use Rattle.probe.specs.Digests.{bytes_of_words, stir_all, digest_of}
+use Rattle.probe.proofs.digest.of_words.Given as goal
+
+abbrev pub invariant-loop-k : goal.invariant-loop-k
+invariant-loop-k l = stir_all l.digest (bytes_of_words (drop l.k l.room)) ≡ digest_of (bytes_of_words l.room)
+
+abbrev pub decreases-loop-k : goal.decreases-loop-k
+decreases-loop-k l = length l.room - l.k

@@ -1,5 +1,5 @@
-/* Hatsuvren for C99 and C++: which mark of a barn's log led straight to which. `rt staticlib hatsuvren_c` makes the archive to
- * link, target/staticlib/libhatsuvren_c.a, for x86-64; docs/LAYOUT.md has the bytes of logs and reports. Any bytes get an answer.
+/* Hatsuvren for C99 and C++: which mark of a barn's log led straight to which. `rt lib` in crates/hatsuvren_c makes the archive
+ * to link, out/libhatsuvren_c.a there, for x86-64; docs/LAYOUT.md has the bytes of logs and reports. Any bytes get an answer.
  * What is said here of the answers, and of what the memory lent holds after a call, is proved.
  *
  * The caller owes this and no more, and the proofs speak of such calls alone:

@@ -118,6 +118,8 @@ def rename_crate(old, new):
 def main():
     if not os.path.isdir("crates"):
         sys.exit("respell: run it at the top of the repository")
+    if not os.path.isdir("crates/log"):
+        sys.exit("respell: there is no crate log, so it has run here already")
     crates = sorted(os.listdir("crates"))
     imported = re.compile(IMPORTED.pattern % "|".join(crates), re.M)
     map_of = renamings("crates")

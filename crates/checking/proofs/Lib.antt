@@ -1,4 +1,5 @@
 pub mod Walked
 pub mod Marks
 pub mod Walking
+pub mod Told
 pub mod Samples

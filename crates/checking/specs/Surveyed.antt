@@ -28,3 +28,22 @@ survey_of report e f (Bad p) = Broken p
 
 abbrev pub surveyed : List ℕ → Mark → Mark → Survey
 surveyed report e f = survey_of report e f (checked report)
+
+-- ---- 01's number and place for each answer: 0 for a well-formed report, and no place, which is 0 too; 14 at the first bad group
+
+abbrev pub number_of : Checked → ℕ
+number_of (Good m) = 0
+number_of (Bad p) = 14
+
+abbrev pub place_of : Checked → ℕ
+place_of (Good m) = 0
+place_of (Bad p) = p
+
+-- a survey's answer has those of the check
+abbrev pub survey_number : Survey → ℕ
+survey_number (Whole m p q) = 0
+survey_number (Broken p) = 14
+
+abbrev pub survey_place : Survey → ℕ
+survey_place (Whole m p q) = 0
+survey_place (Broken p) = p

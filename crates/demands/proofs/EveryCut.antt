@@ -12,7 +12,7 @@ use Rattle.verdict.specs.Table.{Row, Ends}
 use Rattle.verdict.proofs.Verdict.{row_verdict, verdict_row}
 use Rattle.verdict.proofs.Cuts.{ends_accepted}
 use Rattle.machine.specs.Machine.{full}
-use Rattle.machine.specs.Answer.{Answer, answers}
+use Rattle.machine.specs.Answer.{answers}
 use Rattle.machine.proofs.Answers.{answers_grown}
 use Rattle.room.specs.declared.Mode.TheVariants.{Full, Short}
 use Rattle.groups.proofs.GroupsSame.{groups_append}
@@ -20,8 +20,9 @@ use Rattle.groups.specs.Groups.{groups_of}
 use Rattle.report.specs.declared.Answer as run
 use Rattle.passes.specs.Report.{report_of}
 use Rattle.report.specs.Run.{Ran}
-use Rattle.demands.specs.Demands.{Roomy, Completed, SameButCarried, SameArrows}
+use Rattle.demands.specs.Demands.{Roomy, Completed, SameButCarried, SameArrows, RunsAgree}
 use Rattle.demands.proofs.Refusals.{run_completes}
+use Rattle.demands.proofs.Reported.{reports_complete}
 use Rattle.demands.proofs.Messages.{same_arrows, same_answers}
 
 -- the report of a cut is no longer than that of a later one
@@ -52,3 +53,22 @@ cuts_agree {log} {n} {cut} {p} row here roomy large roomy₂ large₂ a b =
     let done = run_completes a roomy there (omega arith) in
     let other = run_completes b roomy₂ there (omega arith) in
     (later, past, parts, done, other, same_answers done other, same_arrows done other)
+
+-- What is left of an accepted log that is cut after any record is accepted, with an earlier cut of the events, and every two runs of it
+-- agree, one full and one short, in rooms that are large enough for what is left and its own report.
+pub cut_runs_agree : {log : List ℕ} {n : ℕ} {cut : List Event} {p : ℕ} → Row log (accepted n cut) → Ends log p
+    → (later past : List Event) × (cut ≡ later ++ past) × Row (take p log) (accepted n past) × RunsAgree (take p log) n past
+cut_runs_agree {log} {n} {cut} {p} row here =
+    let (later, past, parts, ok) = ends_accepted log n cut (row_verdict log row) here in
+    let there : Row (take p log) (accepted n past) = subst (Row (take p log)) ok (verdict_row (take p log)) in (
+      later,
+      past,
+      parts,
+      there,
+      record {
+        runs = λ reports roomy large roomy₂ large₂ a b.
+            let done = reports_complete a roomy there reports large in
+            let other = reports_complete b roomy₂ there reports large₂ in
+            (done, other, same_answers done other, same_arrows done other);
+      },
+    )

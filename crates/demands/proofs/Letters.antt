@@ -37,7 +37,7 @@ module _ {mode : Mode} {log : List ℕ} {n : ℕ} {cut : List Event} {report cou
   mail_at s x few small = sym (get_or-take 4480 mail' (35 * s + x) 0 (omega arith)) ∙ done.state_held.letters.laid s x few small
 
   -- a slot's message lies there
-  mail_lies : (s : ℕ) → s < 128 → (x : Message) → slot_at (slots cut) s ≡ some x → Lies mail' s x.from x.to x.number
+  pub mail_lies : (s : ℕ) → s < 128 → (x : Message) → slot_at (slots cut) s ≡ some x → Lies mail' s x.from x.to x.number
   unfolding element
   mail_lies s few x there =
       let first : 35 * s ≡ 35 * s + 0 = omega arith in
@@ -49,7 +49,7 @@ module _ {mode : Mode} {log : List ℕ} {n : ℕ} {cut : List Event} {report cou
       }
 
   -- with its letter's entry for each node
-  mail_entry : (s : ℕ) → s < 128 → (x : Message) → slot_at (slots cut) s ≡ some x → (k : ℕ) → k < n
+  pub mail_entry : (s : ℕ) → s < 128 → (x : Message) → slot_at (slots cut) s ≡ some x → (k : ℕ) → k < n
       → get_or mail' (35 * s + 3 + k) 0 ≡ code_of (((barn mode cut).state.letter x.number).entry k)
   unfolding element
   mail_entry s few x there k below =
@@ -74,7 +74,7 @@ module _ {mode : Mode} {log : List ℕ} {n : ℕ} {cut : List Event} {report cou
 -- ---- what a short message carries
 
 -- a message in flight was sent at its place
-flying_parts : {m i j p : ℕ} {cut : List Event} → Flying m i j cut p → (later past : List Event) × (cut ≡ later ++ (send i j m ∷ past)) × (p ≡ length past)
+pub flying_parts : {m i j p : ℕ} {cut : List Event} → Flying m i j cut p → (later past : List Event) × (cut ≡ later ++ (send i j m ∷ past)) × (p ≡ length past)
 flying_parts (flying_head {past = past}) = ([], past, refl, refl)
 flying_parts (flying_tail {e = e} h flies) = let (later, past, parts, place) = flying_parts flies in (e ∷ later, past, ap (λ l. e ∷ l) parts, place)
 

@@ -4,11 +4,15 @@ pub mod Refusals
 pub mod RoomsBefore
 pub mod Seen
 pub mod ListedMarks
+pub mod Reported
 pub mod Arrows
 pub mod ReadBack
 pub mod Messages
 pub mod EveryCut
+pub mod Columns
+pub mod Elements
 pub mod Letters
+pub mod Posted
 pub mod Inputs
 pub mod Useless
 pub mod UselessMessages

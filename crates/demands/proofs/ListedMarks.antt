@@ -1,6 +1,7 @@
--- The list of the marks of a cut: it has just their places, in log order, and the machine's answers are right for them one by one.
+-- The list of the marks of a cut: it has just their places, in log order, and the machine's answers are right for them one by one, and
+-- no others are; so their groups are the one report of the cut.
 -- Assumes nothing.
-use mathlib.Core.Path.{◌≡◌, refl, ap₂}
+use mathlib.Core.Path.{◌≡◌, refl, sym, ◌∙◌, ap, ap₂}
 use mathlib.Core.Logic.{◌↔◌, ◌≢◌, ⊎_elim}
 use mathlib.Core.List.Memᴰ
 use mathlib.Core.List.{List, [], ◌∷◌, ◌++◌, Memᴰ}
@@ -13,7 +14,9 @@ use Rattle.machine.specs.Machine.{full}
 use Rattle.machine.specs.Answer.{Answer, answers, Right}
 use Rattle.machine.proofs.Small.{kind}
 use Rattle.machine.proofs.Answers.{right_grown, mark_right, right_unique}
-use Rattle.demands.specs.Demands.{marks_of, Each, each_nil, each_cons, Rising, rising_nil, rising_cons}
+use Rattle.groups.specs.Groups.{groups_of}
+use Rattle.passes.specs.Report.{report_of}
+use Rattle.demands.specs.Demands.{marks_of, Each, each_nil, each_cons, Reports, Rising, rising_nil, rising_cons}
 
 -- ---- the places
 
@@ -96,3 +99,22 @@ answers_right {n} (sound_cons {e = e} {past = past} h ok) = go e h (answers_righ
 pub answers_only : {cut : List Event} {places : List ℕ} {told said : List Answer} → Each (Right cut) places told → Each (Right cut) places said → told ≡ said
 answers_only each_nil each_nil = refl
 answers_only (each_cons h r) (each_cons k s) = ap₂ ◌∷◌ (right_unique h k) (answers_only r s)
+
+-- ---- the report
+
+-- the groups of right answers to all marks are the report
+pub reports_told : {n : ℕ} {cut : List Event} {told : List Answer} → Each (Right cut) (marks_of cut) told → Reports n cut (groups_of n told)
+reports_told {told = told} right = record { told = told; right = right; grouped = refl }
+
+-- so a sound cut has a report, the machine's
+pub reports_some : {n : ℕ} {cut : List Event} → Sound n cut → Reports n cut (report_of n cut)
+unfolding report_of
+reports_some ok = reports_told (answers_right ok)
+
+-- and a cut has one only
+pub reports_one : {n : ℕ} {cut : List Event} {bytes other : List ℕ} → Reports n cut bytes → Reports n cut other → bytes ≡ other
+reports_one {n} r s = r.grouped ∙ ap (groups_of n) (answers_only r.right s.right) ∙ sym s.grouped
+
+-- so its length is that of the machine's
+pub reports_long : {n : ℕ} {cut : List Event} {bytes : List ℕ} → Sound n cut → Reports n cut bytes → length bytes ≡ length (report_of n cut)
+reports_long ok r = ap length (reports_one r (reports_some ok))

@@ -11,14 +11,14 @@ use Rattle.order.specs.Order.{Event, mark, send, At, Counts}
 use Rattle.order.proofs.Counts.{counts_unique}
 use Rattle.verdict.proofs.Accepted.{row_lawful}
 use Rattle.machine.specs.Short.{columns}
-use Rattle.machine.specs.History.{DueInAll}
+use Rattle.machine.specs.History.{InAll, DueInAll}
 use Rattle.machine.proofs.Totals.{total_events, total_marks, total_sends, full_carried, short_carried, due_unique}
 use Rattle.room.specs.declared.Mode.{Mode}
 use Rattle.room.specs.declared.Mode.TheVariants.{Full, Short}
-use Rattle.room.specs.Modes.{says}
+use Rattle.room.specs.Modes.{Counted, says}
 use Rattle.room.specs.Room.{fits}
 use Rattle.room.proofs.OneRoom.{same_counts, same_flags}
-use Rattle.room.proofs.BothModes.{mode_counts, mode_flags}
+use Rattle.room.proofs.BothModes.{mode_counts, mode_flags, mode_carried}
 use Rattle.report.specs.declared.Answer.{Answer}
 use Rattle.passes.specs.Report.{tally_of}
 use Rattle.report.specs.Run.{Ending, cramped, refusal, overlong, complete, ending, answer_of, number_of, totals_of, Ran}
@@ -41,6 +41,11 @@ module _ {log : List ℕ} {n : ℕ} {cut : List Event} {report counts' words' ma
   pub carried_full : Completed Full log n cut report counts' words' mail' report' r → (totals_of r).carried ≡ n * (totals_of r).sends
   unfolding tally_of says
   carried_full done = rw done.answer_is (full_carried n cut)
+
+  -- in either mode they carry what counts, in all: what went along, and with full messages the counts of zero too
+  pub carried_counted : (mode : Mode) → Completed mode log n cut report counts' words' mail' report' r → InAll (Counted mode) n cut (totals_of r).carried
+  unfolding tally_of
+  carried_counted mode done = rw done.answer_is (mode_carried mode (row_lawful done.accepted_is).sound)
 
   -- short messages carry what is due, in all
   pub carried_short : Completed Short log n cut report counts' words' mail' report' r → DueInAll columns n cut (totals_of r).carried

@@ -28,8 +28,9 @@ use Rattle.groups.specs.Groups.{stamp_record, stamp_records, cause_records, grou
 use Rattle.passes.specs.declared.Tally.{Tally}
 use Rattle.passes.specs.Report.{report_of, tally_of}
 use Rattle.report.specs.Run.{settled, ending, number_of, totals_of, Ran}
-use Rattle.demands.specs.Demands.{Roomy, Input, in_mode, Given, Program, Meets}
+use Rattle.demands.specs.Demands.{Reports, Roomy, Input, in_mode, Given, Program, Meets}
 use Rattle.demands.proofs.Refusals.{run_completes}
+use Rattle.demands.proofs.Reported.{own_length}
 use Rattle.demands.proofs.Messages.{carried_only}
 use Rattle.demands.proofs.Letters.{mail_at}
 use Rattle.demands.proofs.Inputs.{all_below, sample, sample_given, sample_roomy}
@@ -55,6 +56,12 @@ module _ (program : Program) where
       ran =
           subst (λ (mode : Mode). Ran mode i.log i.counts i.words i.mail i.report
           (program i).counts (program i).words (program i).mail (program i).report (program i).answer) in_short (meets i given)
+
+  -- the same, where whatever bytes are the report of the log fit
+  pub reports_invented : (i : Input) → Given i → i.mode ≡ Short → Roomy i.counts i.words i.mail
+      → {n : ℕ} {cut : List Event} {bytes : List ℕ} {d : ℕ} → Row i.log (accepted n cut) → Reports n cut bytes → length bytes ≤ length i.report
+      → DueInAll columns n cut d → (totals_of (program i).answer).carried ≢ d → ¬ Meets program
+  reports_invented i given in_short roomy row reports large due other = invented_total i given in_short roomy row (rw (own_length row reports) at large) due other
 
   -- what a program that keeps the promise answers of log B
   log_B : Meets program → (number_of (program (sample Short log_b 43)).answer ≡ 0)

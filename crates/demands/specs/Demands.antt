@@ -1,5 +1,5 @@
--- What the theorems about a run speak of, beyond its promise: 01's table of refusals, the marks of a log, two runs that agree,
--- and a program.
+-- What the theorems about a run speak of, beyond its promise: 01's table of refusals, the marks of a log and its report, two runs
+-- that agree, what lies in the mail, and a program.
 -- Assumes nothing.
 use Rattle.std.specs.Prelude.{◌≡◌, Bool, cond, ℕ, suc, ◌+◌, ◌*◌, ◌^◌, ◌<◌, ◌≤◌, length, get_or, take}
 use mathlib.Core.List.{List, [], ◌∷◌, ◌++◌, Memᴰ}
@@ -14,8 +14,10 @@ use Rattle.verdict.specs.Table.{Refused, Row}
 use Rattle.machine.specs.Answer as machine
 use Rattle.machine.specs.Answer.{Right}
 use Rattle.room.specs.declared.Mode.{Mode}
+use Rattle.room.specs.declared.Mode.TheVariants.{Full, Short}
+use Rattle.room.specs.Modes.{GoesAlong}
 use Rattle.room.specs.Room.{barn, Holds}
-use Rattle.groups.specs.Groups.{laid}
+use Rattle.groups.specs.Groups.{groups_of, laid}
 use Rattle.report.specs.declared.Answer.{Answer}
 use Rattle.report.specs.declared.Answer.TheVariants.{Accepted}
 use Rattle.passes.specs.Report.{report_of, tally_of}
@@ -73,6 +75,12 @@ pub data Each {A B : Type 0} (R : A → B → Type 0) : List A → List B → Ty
   each_nil : Each R [] []
   each_cons : {x : A} {y : B} {xs : List A} {ys : List B} → R x y → Each R xs ys → Each R (x ∷ xs) (y ∷ ys)
 
+-- the bytes are the report of the cut, for n nodes: the groups of the right answers to its marks, one for each in log order
+pub record Reports (n : ℕ) (cut : List Event) (bytes : List ℕ) : Type 0 where
+  pub told : List machine.Answer
+  pub right : Each (Right cut) (marks_of cut) told
+  pub grouped : bytes ≡ groups_of n told
+
 -- the answers say the same of a mark in a barn of n nodes: which mark it is, its stamp, and its direct predecessors
 pub record SameAnswer (n : ℕ) (a b : machine.Answer) : Type 0 where
   pub node_same : a.node ≡ b.node
@@ -105,6 +113,18 @@ pub record SameArrows (counts words report counts₂ words₂ report₂ : List �
   pub flags_same : (i : ℕ) → i < 32 → get_or words i 0 ≡ get_or words₂ i 0
   pub report_same : take (totals_of r).bytes report ≡ take (totals_of s).bytes report₂
 
+-- Every two runs of the log with these events, one full and one short, in work rooms that are large enough and report rooms that its
+-- report fits: both are accepted, and they answer and leave the same but for what the messages carried.
+pub record RunsAgree (log : List ℕ) (n : ℕ) (cut : List Event) : Type 0 where
+  pub runs : {bytes counts words mail report counts' words' mail' report' : List ℕ} {r : Answer}
+      {counts₂ words₂ mail₂ report₂ counts₂' words₂' mail₂' report₂' : List ℕ} {s : Answer}
+      → Reports n cut bytes → Roomy counts words mail → length bytes ≤ length report → Roomy counts₂ words₂ mail₂ → length bytes ≤ length report₂
+      → Ran Full log counts words mail report counts' words' mail' report' r
+      → Ran Short log counts₂ words₂ mail₂ report₂ counts₂' words₂' mail₂' report₂' s
+      → Completed Full log n cut report counts' words' mail' report' r
+      × Completed Short log n cut report₂ counts₂' words₂' mail₂' report₂' s
+      × SameButCarried r s × SameArrows counts' words' report' counts₂' words₂' report₂' r s
+
 -- message number m from node i to node j lies in slot s of the mail
 pub record Lies (mail : List ℕ) (s i j m : ℕ) : Type 0 where
   pub slot_few : s < 128
@@ -115,6 +135,29 @@ pub record Lies (mail : List ℕ) (s i j m : ℕ) : Type 0 where
 -- the element of slot s for node k is that of count c with flag x: if c is above zero, the message there carries it
 abbrev pub EntryAt : List ℕ → ℕ → ℕ → ℕ → Bool → Type 0
 EntryAt mail s k c x = get_or mail (35 * s + 3 + k) 0 ≡ 2 * c + cond x 1 0
+
+-- a count and its flag as an element of the mail
+abbrev pub element_of : ℕ → Bool → ℕ
+element_of count flag = 2 * count + cond flag 1 0
+
+-- the element of slot s for node k
+abbrev pub entry_at : List ℕ → ℕ → ℕ → ℕ
+entry_at mail s k = get_or mail (35 * s + 3 + k) 0
+
+-- the element for k of a message that i sends to j after the cut: that of the count and the flag that go along, and 0 if none does
+pub data Element (mode : Mode) (past : List Event) (i j k : ℕ) : ℕ → Type 0 where
+  element_carried : (c : ℕ) (x : Bool) → GoesAlong mode past i j k c x → Element mode past i j k (element_of c x)
+  element_absent : ((c : ℕ) (x : Bool) → ¬ GoesAlong mode past i j k c x) → Element mode past i j k 0
+
+-- slot s has message number m, which i sent to j at place p of the cut, with the letter of that very send, and is zero behind it
+pub record Posted (mode : Mode) (n : ℕ) (cut : List Event) (mail : List ℕ) (s m i j p : ℕ) : Type 0 where
+  pub lies : Lies mail s i j m
+  pub later : List Event
+  pub past : List Event
+  pub sent_then : cut ≡ later ++ (send i j m ∷ past)
+  pub place_is : p ≡ length past
+  pub letter_is : (k : ℕ) → k < n → Element mode past i j k (entry_at mail s k)
+  pub rest_zero : (k : ℕ) → n ≤ k → k < 32 → entry_at mail s k ≡ 0
 
 -- ---- useless programs
 

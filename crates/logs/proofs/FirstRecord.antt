@@ -1,14 +1,16 @@
--- What the first two bytes are behind each answer of the first record's reader, and that only they decide it.
+-- What the first two bytes are behind each answer of the first record's reader, both ways, and that only they decide it. By
+-- deciding the tests of its definition.
 -- Assumes nothing.
 use mathlib.Core.Path.{◌≡◌, refl, sym, ◌∙◌, subst}
-use mathlib.Core.Logic.{◌⊎◌, inl, inr}
+use mathlib.Core.Logic.{◌⊎◌, inl, inr, ◌≢◌, ◌↔◌}
 use mathlib.Core.Bool.{Bool, true, false, cond, ◌&&◌}
 use mathlib.Core.List.{List}
 use Prim.Native.Nat.{ℕ, ◌<◌, ◌≤◌}
+use native.Mathlib.Decide.{dec_le}
 use native.Mathlib.Omega.{arith}
 use lib.Dec.{eqb, leb}
 use lib.ListN.{length, get_or}
-use borrow.Author.Tests.{le-leb, leb-true, leb-false, eq-eqb, eqb-true, eqb-false}
+use borrow.Author.Tests.{le-leb, lt-leb, leb-true, leb-false, eq-eqb, ne_eqb, eqb-true, eqb-false}
 use Rattle.logs.specs.declared.Cursor.{Cursor}
 use Rattle.logs.specs.declared.Opening.{Opening}
 use Rattle.logs.specs.declared.Opening.TheVariants.{Nodes, Missing, OutOfRange}
@@ -55,10 +57,48 @@ module _ (log : List ℕ) where
       go : {q : ℕ} → Opens log (OutOfRange q) → (q ≡ 1) × (2 ≤ length log)
       go (opens_range a b h) = (refl, a)
 
+  -- where the bytes of an answer stand, it is given
+  pub opens_given : {o : Opening} → Opens log o → opening_of log ≡ o
+  unfolding opening_of
+  opens_given (opens_missing (inl h)) = simp (lt-leb _ _ h)
+  opens_given (opens_missing (inr h)) = go (dec_le 2 (length log))
+    where
+      go : Dec (2 ≤ length log) → opening_of log ≡ Missing 0
+      go (yes a) = simp (le-leb _ _ a, ne_eqb _ _ h)
+      go (no a) = let b : length log < 2 = omega arith in simp (lt-leb _ _ b)
+  opens_given (opens_range a b (inl h)) = simp (le-leb _ _ a, eq-eqb _ _ b, h)
+  opens_given (opens_range a b (inr h)) = let one : 1 ≤ get_or log 1 0 = omega arith in simp (le-leb _ _ a, eq-eqb _ _ b, le-leb _ _ one, lt-leb _ _ h)
+  opens_given (opens_nodes a b h k) = simp (le-leb _ _ a, eq-eqb _ _ b, le-leb _ _ h, le-leb _ _ k)
+
   -- where the bytes of a first record stand, it is read
   pub opens_read : {n : ℕ} {c : Cursor} → Opens log (Nodes n c) → opening_of log ≡ Nodes n c
-  unfolding opening_of
-  opens_read (opens_nodes a b h k) = simp (le-leb _ _ a, eq-eqb _ _ b, le-leb _ _ h, le-leb _ _ k)
+  opens_read h = opens_given h
+
+  -- fewer than two bytes, or the first is not 0x10: at 0
+  pub missing_exactly : {q : ℕ} → (opening_of log ≡ Missing q) ↔ ((q ≡ 0) × ((length log < 2) ⊎ (get_or log 0 0 ≢ 0x10)))
+  missing_exactly = (λ e. go (subst (Opens log) e opens), λ h. rw h.0 (opens_given (opens_missing h.1)))
+    where
+      go : {q : ℕ} → Opens log (Missing q) → (q ≡ 0) × ((length log < 2) ⊎ (get_or log 0 0 ≢ 0x10))
+      go (opens_missing h) = (refl, h)
+
+  -- two bytes or more, the first 0x10 and the second 0 or above 32: at 1
+  pub range_exactly : {q : ℕ}
+      → (opening_of log ≡ OutOfRange q) ↔ ((q ≡ 1) × (2 ≤ length log) × (get_or log 0 0 ≡ 0x10) × ((get_or log 1 0 ≡ 0) ⊎ (32 < get_or log 1 0)))
+  range_exactly = (λ e. go (subst (Opens log) e opens), λ h. rw h.0 (opens_given (opens_range h.1 h.2 h.3)))
+    where
+      go : {q : ℕ} → Opens log (OutOfRange q) → (q ≡ 1) × (2 ≤ length log) × (get_or log 0 0 ≡ 0x10) × ((get_or log 1 0 ≡ 0) ⊎ (32 < get_or log 1 0))
+      go (opens_range a b h) = (refl, a, b, h)
+
+  -- two bytes or more, the first 0x10 and the second, from 1 to 32, the node count: the records start at place 2
+  pub nodes_exactly : {n : ℕ} {c : Cursor}
+      → (opening_of log ≡ Nodes n c) ↔ ((c.at ≡ 2) × (2 ≤ length log) × (get_or log 0 0 ≡ 0x10) × (n ≡ get_or log 1 0) × (1 ≤ n) × (n ≤ 32))
+  nodes_exactly = (
+    λ e. go (subst (Opens log) e opens),
+    λ h. rw (h.0, h.3) (opens_given (opens_nodes h.1 h.2 (rw h.3 at h.4) (rw h.3 at h.5))),
+  )
+    where
+      go : {n : ℕ} {c : Cursor} → Opens log (Nodes n c) → (c.at ≡ 2) × (2 ≤ length log) × (get_or log 0 0 ≡ 0x10) × (n ≡ get_or log 1 0) × (1 ≤ n) × (n ≤ 32)
+      go (opens_nodes a b h k) = (refl, a, b, refl, h, k)
 
 -- a log that has the same first two bytes opens in the same way
 pub nodes_same : (log other : List ℕ) → 2 ≤ length other → get_or log 0 0 ≡ get_or other 0 0 → get_or log 1 0 ≡ get_or other 1 0

@@ -1,7 +1,8 @@
--- What the bytes are where the reader gives an answer, case by case, and from it: reading goes forward, stays within the
--- log, and sees only the bytes of the record. By deciding the kind and the length.
+-- What the bytes are where the reader gives an answer, case by case and both ways, and from it: reading goes forward, stays
+-- within the log, and sees only the bytes of the record. By deciding the kind and the length.
 -- Assumes nothing.
 use mathlib.Core.Path.{◌≡◌, refl, sym, ◌∙◌, subst}
+use mathlib.Core.Logic.{◌↔◌}
 use mathlib.Core.List.{List}
 use Prim.Native.Nat.{ℕ, ◌+◌, ◌-◌, ◌<◌, ◌≤◌}
 use native.Mathlib.Decide.{ℕ_discrete, dec_le}
@@ -69,12 +70,27 @@ module _ (log : List ℕ) (p : ℕ) where
       go (yes h) = rw (record_end log p h) (stands_end h)
       go (no h) = by_kind (omega arith) (ℕ_discrete kind 0x11) (ℕ_discrete kind 0x12) (ℕ_discrete kind 0x13) (ℕ_discrete kind 0x14)
 
+  -- a record of a known kind of which the log lacks bytes
+  short_read : p < length log → {k size : ℕ} → get_or log p 0 ≡ k → Kind k size → length log < p + size → record_at log p ≡ Short p
+  short_read b e kind_idle h = record_idle log p b e ∙ whole_short log p b 2 _ (omega arith)
+  short_read b e kind_mark h = record_mark log p b e ∙ whole_short log p b 2 _ (omega arith)
+  short_read b e kind_send h = record_send log p b e ∙ whole_short log p b 5 _ (omega arith)
+  short_read b e kind_receipt h = record_receipt log p b e ∙ whole_short log p b 4 _ (omega arith)
+
+  -- where the bytes of an answer stand, it is given
+  pub stands_given : {s : Step} → Stands log p s → record_at log p ≡ s
+  stands_given (stands_end h) = record_end log p h
+  stands_given (stands_unknown h none) =
+      record_unknown log p h (λ e. none 2 (rw e kind_idle)) (λ e. none 2 (rw e kind_mark)) (λ e. none 5 (rw e kind_send)) (λ e. none 4 (rw e kind_receipt))
+  stands_given (stands_short b k h) = short_read b refl k h
+  stands_given (stands_idle k h) = let b : p < length log = omega arith in record_idle log p b k ∙ whole_read log p b 2 _ (omega arith)
+  stands_given (stands_mark k h) = let b : p < length log = omega arith in record_mark log p b k ∙ whole_read log p b 2 _ (omega arith)
+  stands_given (stands_send k h) = let b : p < length log = omega arith in record_send log p b k ∙ whole_read log p b 5 _ (omega arith)
+  stands_given (stands_receipt k h) = let b : p < length log = omega arith in record_receipt log p b k ∙ whole_read log p b 4 _ (omega arith)
+
   -- and where the bytes of a record stand, it is read
   pub stands_read : {r : Record} {c : Cursor} → Stands log p (Read r c) → record_at log p ≡ Read r c
-  stands_read (stands_idle k h) = let b : p < length log = omega arith in record_idle log p b k ∙ whole_read log p b 2 _ (omega arith)
-  stands_read (stands_mark k h) = let b : p < length log = omega arith in record_mark log p b k ∙ whole_read log p b 2 _ (omega arith)
-  stands_read (stands_send k h) = let b : p < length log = omega arith in record_send log p b k ∙ whole_read log p b 5 _ (omega arith)
-  stands_read (stands_receipt k h) = let b : p < length log = omega arith in record_receipt log p b k ∙ whole_read log p b 4 _ (omega arith)
+  stands_read h = stands_given h
 
 -- how many bytes a record has
 abbrev pub size_of : Record → ℕ
@@ -125,6 +141,15 @@ module _ (log : List ℕ) (p : ℕ) where
     where
       go : {q : ℕ} → Stands log p (Short q) → (q ≡ p) × (p < length log) × ((size : ℕ) × Kind (get_or log p 0) size × (length log < p + size))
       go (stands_short {size = size} h k l) = (refl, h, (size, k, l))
+
+  -- a byte of the log that is no kind
+  pub unknown_exactly : {q : ℕ} → (record_at log p ≡ Unknown q) ↔ ((q ≡ p) × (p < length log) × ((size : ℕ) → ¬ Kind (get_or log p 0) size))
+  unknown_exactly = (λ e. unknown_there e, λ h. rw h.0 (stands_given log p (stands_unknown h.1 h.2)))
+
+  -- the kind byte of a record of which the log lacks bytes
+  pub short_exactly : {q : ℕ}
+      → (record_at log p ≡ Short q) ↔ ((q ≡ p) × (p < length log) × ((size : ℕ) × Kind (get_or log p 0) size × (length log < p + size)))
+  short_exactly = (λ e. short_there e, λ h. rw h.0 (stands_given log p (stands_short h.1 h.2.1 h.2.2)))
 
 -- ---- the bytes of a record decide it
 

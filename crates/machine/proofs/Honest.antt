@@ -53,7 +53,7 @@ owed_rises : {x : Entry} {h l : ℕ} → h ≤ l → Owed x h → Owed x l
 owed_rises r o = record { count = o.count; flag = o.flag; told = o.told; had = omega arith; light = o.light }
 
 -- a flag is clear where the count is 0
-clear : {es : List Event} {t : State} → Faithful es t → (j k : ℕ) → t.count j k ≡ 0 → t.flag j k ≡ false
+pub clear : {es : List Event} {t : State} → Faithful es t → (j k : ℕ) → t.count j k ≡ 0 → t.flag j k ≡ false
 clear v j k h = eq-false_of_not-eq-true (λ e. let l = (((v.rows j).flags k).0 e).0 in omega arith)
 
 -- such an entry is idle

@@ -2,7 +2,7 @@
 -- a short one as many as are due.
 -- Assumes nothing.
 use mathlib.Core.Path.{◌≡◌, refl, sym, ◌∙◌, ap, ap₂}
-use mathlib.Core.Logic.{◌≢◌, ⊎_elim}
+use mathlib.Core.Logic.{◌≢◌, ⊎_elim, ◌↔◌}
 use mathlib.Core.Bool.{Bool}
 use mathlib.Core.List.{List, [], ◌∷◌}
 use Prim.Native.Nat.{ℕ, zero, suc, ◌+◌, ◌*◌}
@@ -14,7 +14,7 @@ use Rattle.order.proofs.Places.{at_bound, at_cases, at_down}
 use Rattle.order.proofs.Counts.{counts_unique, counts_same}
 use Rattle.machine.specs.Machine.{Entry, absent, present, State, whole, full}
 use Rattle.machine.specs.Short.{Knowledge, brief, short, columns}
-use Rattle.machine.specs.History.{Due, DueInAll, none_due, send_due, other_due}
+use Rattle.machine.specs.History.{Due, DueInAll, none_due, send_due, other_due, InAll, in_none, in_send, in_other}
 use Rattle.machine.specs.Answer.{answer, answers, weight, entries, Totals, more, totals}
 use Rattle.machine.proofs.Small.{differ, absent_present}
 use Rattle.machine.proofs.ShortMessages.{carried_exactly}
@@ -35,11 +35,15 @@ entries_counted (suc n) entry = go (entry n) refl (entries_counted n entry)
         let z : entries n entry + 1 ≡ suc (entries n entry) = omega arith in
         rw (e, z) (counts_yes (c, x, e) r)
 
+-- as many as there are nodes with an entry that a rule gives
+pub entries_given : {n : ℕ} {entry : ℕ → Entry} {Given : ℕ → ℕ → Bool → Type 0} → ((k c : ℕ) (x : Bool) → (entry k ≡ present c x) ↔ Given k c x)
+    → Counts (λ k. (c : ℕ) × (x : Bool) × Given k c x) n (entries n entry)
+entries_given {n} {entry} rule =
+    counts_same (λ k l h. (h.0, h.1, (rule k h.0 h.1).0 h.2)) (λ k l h. (h.0, h.1, (rule k h.0 h.1).1 h.2)) (entries_counted n entry)
+
 -- a short message carries as many entries as are due
 pub short_entries : {n : ℕ} {past : List Event} → Sound n past → (i j : ℕ) → Counts (λ k. (c : ℕ) × (x : Bool) × Due columns past i j k c x) n (entries n (brief (short columns past) i j))
-short_entries {n} {past} ok i j =
-    counts_same (λ k l h. (h.0, h.1, (carried_exactly ok i j k h.0 h.1).0 h.2)) (λ k l h. (h.0, h.1, (carried_exactly ok i j k h.0 h.1).1 h.2))
-    (entries_counted n (brief (short columns past) i j))
+short_entries ok i j = entries_given (carried_exactly ok i j)
 
 -- and a full one all n
 pub full_entries : (n : ℕ) (s : State) (i j : ℕ) → entries n (whole s i j) ≡ n
@@ -140,3 +144,33 @@ due_unique (send_due c r) (send_due d s) = ap₂ ◌+◌ (due_unique r s) (count
 due_unique (send_due {i = i} {j = j} {m = m} c r) (other_due h s) = absurd (h i j m refl)
 due_unique (other_due h r) (send_due {i = i} {j = j} {m = m} c s) = absurd (h i j m refl)
 due_unique (other_due h r) (other_due k s) = due_unique r s
+
+-- ---- the same for every rule of what counts in a message
+
+-- where each message of a sound cut has as many entries as count in it, the messages carry those in all
+pub carried_in_all : {n : ℕ} (says : List Event → ℕ → ℕ → ℕ → Entry) {Goes : List Event → ℕ → ℕ → ℕ → Type 0}
+    → ((past : List Event) → Sound n past → (i j : ℕ) → Counts (Goes past i j) n (entries n (says past i j)))
+    → {es : List Event} → Sound n es → InAll Goes n es (totals n says es).carried
+unfolding totals more
+carried_in_all says each sound_nil = in_none
+carried_in_all {n} says {Goes} each (sound_cons {e = e} {past = past} a ok) = go e (carried_in_all says each ok)
+  where
+    go : (e : Event) → InAll Goes n past (totals n says past).carried → InAll Goes n (e ∷ past) (totals n says (e ∷ past)).carried
+    go (idle i) r = in_other {e = idle i} (λ a b l. differ (λ z. omega arith)) r
+    go (mark i) r = in_other {e = mark i} (λ a b l. differ (λ z. omega arith)) r
+    go (send i j m) r = in_send (each past ok i j) r
+    go (receipt j m) r = in_other {e = receipt j m} (λ a b l. differ (λ z. omega arith)) r
+
+-- which is one number
+pub in_all_unique : {Goes : List Event → ℕ → ℕ → ℕ → Type 0} {n : ℕ} {es : List Event} {t u : ℕ} → InAll Goes n es t → InAll Goes n es u → t ≡ u
+in_all_unique in_none in_none = refl
+in_all_unique (in_send c r) (in_send d s) = ap₂ ◌+◌ (in_all_unique r s) (counts_unique c d)
+in_all_unique (in_send {i = i} {j = j} {m = m} c r) (in_other h s) = absurd (h i j m refl)
+in_all_unique (in_other h r) (in_send {i = i} {j = j} {m = m} c s) = absurd (h i j m refl)
+in_all_unique (in_other h r) (in_other k s) = in_all_unique r s
+
+-- what is due in all is such a sum
+pub due_in_all : {K : Knowledge} {n : ℕ} {es : List Event} {t : ℕ} → DueInAll K n es t → InAll (λ past i j k. (c : ℕ) × (x : Bool) × Due K past i j k c x) n es t
+due_in_all none_due = in_none
+due_in_all (send_due c r) = in_send c (due_in_all r)
+due_in_all (other_due h r) = in_other h (due_in_all r)

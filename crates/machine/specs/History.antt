@@ -26,3 +26,10 @@ pub data DueInAll (K : Knowledge) (n : ℕ) : List Event → ℕ → Type 0 wher
   send_due : {past : List Event} {i j m d t : ℕ} → Counts (λ k. (c : ℕ) × (x : Bool) × Due K past i j k c x) n d
       → DueInAll K n past t → DueInAll K n (send i j m ∷ past) (t + d)
   other_due : {e : Event} {past : List Event} {t : ℕ} → ((i j m : ℕ) → e ≢ send i j m) → DueInAll K n past t → DueInAll K n (e ∷ past) t
+
+-- what the messages of a cut come to in all, in a barn of n nodes: the sum, over all sends, of the nodes k whose entry counts in the
+-- message that i sends to j after the cut `past` (`Goes past i j k`)
+pub data InAll (Goes : List Event → ℕ → ℕ → ℕ → Type 0) (n : ℕ) : List Event → ℕ → Type 0 where
+  in_none : InAll Goes n [] 0
+  in_send : {past : List Event} {i j m d t : ℕ} → Counts (Goes past i j) n d → InAll Goes n past t → InAll Goes n (send i j m ∷ past) (t + d)
+  in_other : {e : Event} {past : List Event} {t : ℕ} → ((i j m : ℕ) → e ≢ send i j m) → InAll Goes n past t → InAll Goes n (e ∷ past) t

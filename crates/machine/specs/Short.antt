@@ -52,6 +52,10 @@ learn_columns (send i j m) s held = held
 learn_columns (receipt i m) s held =
     put i (λ k. note (s.letter m).from (s.count i k) ((s.letter m).entry k) (held i k)) held
 
+-- the knowledge of columns, whatever it spares
+abbrev pub noting : (State → Columns → ℕ → ℕ → ℕ → Bool) → Knowledge
+noting spares = record { Held = Columns; none = λ i k j. false; spares = spares; learn = learn_columns }
+
 -- an entry is spared if its flag is set and the receiver has brought that very count
 abbrev pub columns : Knowledge
 columns =

@@ -1,9 +1,10 @@
 -- The two ways to send, and the machine that the work room follows in each.
 -- Assumes nothing.
-use Rattle.std.specs.Prelude.{Bool, true, false, ◌&&◌, List, ℕ, ◌^◌}
+use Rattle.std.specs.Prelude.{◌≡◌, ◌⊎◌, Bool, true, false, ◌&&◌, List, ℕ, ◌^◌, ◌<◌}
 use Rattle.order.specs.Order.{Event}
 use Rattle.machine.specs.Machine.{Entry, whole, full}
 use Rattle.machine.specs.Short.{Knowledge, brief, short, Columns, learn_columns, columns}
+use Rattle.machine.specs.History.{Due}
 use Rattle.room.specs.declared.Mode.{Mode}
 use Rattle.room.specs.declared.Mode.TheVariants.{Full, Short}
 
@@ -22,6 +23,17 @@ knowledge mode =
       spares = λ s held i j k. s.flag i k && (sparing mode && held i k j);
       learn = learn_columns;
     }
+
+-- What the letter of a message that i sends to j after the cut is to hold of k: its count c at i, with its flag x. With full messages
+-- every count above zero goes along, with short ones what is due; a count of zero, whose flag is clear, is no entry of a letter.
+abbrev pub GoesAlong : Mode → List Event → (i j k c : ℕ) → Bool → Type 0
+GoesAlong Full past i j k c x = (c ≡ (full past).count i k) × (x ≡ (full past).flag i k) × (0 < c)
+GoesAlong Short past i j k c x = Due columns past i j k c x
+
+-- what the message is counted to carry: what goes along, and with full messages the counts of zero too
+abbrev pub Counted : Mode → List Event → (i j k : ℕ) → Type 0
+Counted Full past i j k = ((c : ℕ) × (x : Bool) × GoesAlong Full past i j k c x) ⊎ ((full past).count i k ≡ 0)
+Counted Short past i j k = (c : ℕ) × (x : Bool) × GoesAlong Short past i j k c x
 
 -- what a message that i sends to j after the cut is counted to carry: everything if it is full, zeros too
 unfoldable pub says : Mode → List Event → ℕ → ℕ → ℕ → Entry

@@ -1,8 +1,8 @@
 -- Where a refusal points: at the very byte that the table names, inside the record that is refused, and never past the
--- log's length. By the bytes behind each record that is read.
+-- log's length; and which bytes are refused with 2, 3, 4 and 5. By the bytes behind each answer of the reader.
 -- Assumes nothing.
 use mathlib.Core.Path.{◌≡◌, refl, subst}
-use mathlib.Core.Logic.{◌⊎◌, inl, inr, ◌≢◌}
+use mathlib.Core.Logic.{◌⊎◌, inl, inr, ◌≢◌, ◌↔◌}
 use mathlib.Core.List.{List}
 use Prim.Native.Nat.{ℕ, ◌+◌, ◌<◌, ◌≤◌}
 use native.Mathlib.Omega.{arith}
@@ -12,9 +12,9 @@ use Rattle.logs.specs.declared.Cursor.{Cursor}
 use Rattle.logs.specs.declared.Record.{Record}
 use Rattle.logs.specs.declared.Step.TheVariants.{Read}
 use Rattle.logs.specs.Record.{number_at, record_at}
-use Rattle.verdict.specs.Table.{Breaks, breaks_12, breaks_6, breaks_6_to, breaks_7, breaks_8, breaks_9, breaks_10, breaks_11, Refused, refused_2, refused_3, refused_4, refused_5, refused_rule}
-use Rattle.logs.proofs.Stands.{Stands, stands, stands_idle, stands_mark, stands_send, stands_receipt, read_forward, unknown_there, short_there}
-use Rattle.logs.proofs.FirstRecord.{missing_there, range_there}
+use Rattle.verdict.specs.Table.{Reached, Breaks, breaks_12, breaks_6, breaks_6_to, breaks_7, breaks_8, breaks_9, breaks_10, breaks_11, Refused, refused_2, refused_3, refused_4, refused_5, refused_rule}
+use Rattle.logs.proofs.Stands.{Kind, Stands, stands, stands_idle, stands_mark, stands_send, stands_receipt, read_forward, unknown_there, short_there, unknown_exactly, short_exactly}
+use Rattle.logs.proofs.FirstRecord.{missing_there, range_there, missing_exactly, range_exactly}
 
 -- What the bytes are around the place of a refusal, for the record whose kind byte is at p. The last number is the place.
 pub data Points (log : List ℕ) (n : ℕ) (cut : List Event) (p : ℕ) : ℕ → ℕ → Type 0 where
@@ -66,20 +66,57 @@ refused_within {log} (refused_rule {n = n} {p = p} {cut = cut} here e b) =
     let f = read_forward log p e in
     inr (omega arith)
 
+-- the numbers of the rules are 6 to 12
+breaks_number : {n p x q : ℕ} {cut : List Event} {r : Record} → Breaks n cut p r x q → (6 ≤ x) × (x ≤ 12)
+breaks_number (breaks_12 a) = omega arith
+breaks_number (breaks_6 a b) = omega arith
+breaks_number (breaks_6_to a b c) = omega arith
+breaks_number (breaks_7 a b c d) = omega arith
+breaks_number (breaks_8 a b c d e) = omega arith
+breaks_number (breaks_9 a b c) = omega arith
+breaks_number (breaks_10 a b c) = omega arith
+breaks_number (breaks_11 a b c d) = omega arith
+
 -- the numbers of refusal are 2 to 12
 pub refused_number : {log : List ℕ} {x q : ℕ} → Refused log x q → (2 ≤ x) × (x ≤ 12)
 refused_number (refused_2 e) = omega arith
 refused_number (refused_3 e) = omega arith
 refused_number (refused_4 here e) = omega arith
 refused_number (refused_5 here e) = omega arith
-refused_number (refused_rule here e b) = go b
-  where
-    go : {n p x q : ℕ} {cut : List Event} {r : Record} → Breaks n cut p r x q → (2 ≤ x) × (x ≤ 12)
-    go (breaks_12 a) = omega arith
-    go (breaks_6 a b) = omega arith
-    go (breaks_6_to a b c) = omega arith
-    go (breaks_7 a b c d) = omega arith
-    go (breaks_8 a b c d e) = omega arith
-    go (breaks_9 a b c) = omega arith
-    go (breaks_10 a b c) = omega arith
-    go (breaks_11 a b c d) = omega arith
+refused_number (refused_rule here e b) = let h = breaks_number b in omega arith
+
+-- ---- the bytes that are refused with 2, 3, 4 and 5
+
+module _ {log : List ℕ} {q : ℕ} where
+  -- no whole 0x10 record at the start
+  pub refused_2_exactly : Refused log 2 q ↔ ((q ≡ 0) × ((length log < 2) ⊎ (get_or log 0 0 ≢ 0x10)))
+  refused_2_exactly = (go, λ h. refused_2 ((missing_exactly log).1 h))
+    where
+      go : Refused log 2 q → (q ≡ 0) × ((length log < 2) ⊎ (get_or log 0 0 ≢ 0x10))
+      go (refused_2 e) = (missing_exactly log).0 e
+      go (refused_rule here e b) = let h = breaks_number b in absurd (omega arith)
+
+  -- node count 0 or above 32
+  pub refused_3_exactly : Refused log 3 q ↔ ((q ≡ 1) × (2 ≤ length log) × (get_or log 0 0 ≡ 0x10) × ((get_or log 1 0 ≡ 0) ⊎ (32 < get_or log 1 0)))
+  refused_3_exactly = (go, λ h. refused_3 ((range_exactly log).1 h))
+    where
+      go : Refused log 3 q → (q ≡ 1) × (2 ≤ length log) × (get_or log 0 0 ≡ 0x10) × ((get_or log 1 0 ≡ 0) ⊎ (32 < get_or log 1 0))
+      go (refused_3 e) = (range_exactly log).0 e
+      go (refused_rule here e b) = let h = breaks_number b in absurd (omega arith)
+
+  -- after records that pass, a byte that is no kind of event
+  pub refused_4_exactly : Refused log 4 q ↔ ((n : ℕ) × (cut : List Event) × Reached log n q cut × (q < length log) × ((size : ℕ) → ¬ Kind (get_or log q 0) size))
+  refused_4_exactly = (go, λ h. refused_4 h.2 ((unknown_exactly log q).1 (refl, h.3, h.4)))
+    where
+      go : Refused log 4 q → (n : ℕ) × (cut : List Event) × Reached log n q cut × (q < length log) × ((size : ℕ) → ¬ Kind (get_or log q 0) size)
+      go (refused_4 {n = n} {p = p} {cut = cut} here e) = let (same, h, none) = (unknown_exactly log p).0 e in rw same (n, cut, here, h, none)
+      go (refused_rule here e b) = let h = breaks_number b in absurd (omega arith)
+
+  -- after records that pass, the kind byte of a record of which the log lacks bytes
+  pub refused_5_exactly : Refused log 5 q
+      ↔ ((n : ℕ) × (cut : List Event) × Reached log n q cut × (q < length log) × ((size : ℕ) × Kind (get_or log q 0) size × (length log < q + size)))
+  refused_5_exactly = (go, λ h. refused_5 h.2 ((short_exactly log q).1 (refl, h.3, h.4)))
+    where
+      go : Refused log 5 q → (n : ℕ) × (cut : List Event) × Reached log n q cut × (q < length log) × ((size : ℕ) × Kind (get_or log q 0) size × (length log < q + size))
+      go (refused_5 {n = n} {p = p} {cut = cut} here e) = let (same, h, short) = (short_exactly log p).0 e in rw same (n, cut, here, h, short)
+      go (refused_rule here e b) = let h = breaks_number b in absurd (omega arith)

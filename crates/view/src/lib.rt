@@ -1,10 +1,13 @@
 // The view of a report: the lent report and the place reached in it. Its functions take it apart and leave the work to
-// `shape::look`, which takes a slice and a place.
+// `shape::look` and `reading::count_at`, which take a slice and a place.
 #![tactic(auto)]
 
 ghost use Rattle.std.specs.Prelude.{◌≡◌};
+ghost use Rattle.std.specs.Prelude.{◌≤◌, length};
+ghost use Rattle.reading.specs.Reading.{count_at, past_count};
 ghost use Rattle.shape.specs.Shape.{group_seen};
 
+use reading::Count;
 use shape::Group;
 
 // A report, and the place that is reached in it.
@@ -29,6 +32,14 @@ impl<'a> View<'a> {
         shape::look(self.report, self.at)
     }
 
+    // The count of a node in a stamp, where it would stand at the place that the view has reached, and the place past it.
+    pub fn count(self, node: usize) -> Count
+        requires { self.at ≤ length self.report.now }
+        ensures { (result.count ≡ count_at self.entry.report.now self.entry.at node) × (result.past ≡ past_count self.entry.report.now self.entry.at node) }
+    {
+        reading::count_at(self.report, self.at, node)
+    }
+
     // The view handed back at another place.
     pub fn moved(self, at: usize) -> View<'a>
         ensures { (result.report ≡ self.entry.report) × (result.at ≡ at) }
@@ -45,4 +56,12 @@ pub fn group(report: &[u8], at: usize) -> Group
     ensures { result ≡ group_seen report.now at }
 {
     View::over(report, at).read()
+}
+
+// The count of a node in a stamp, where it would stand at a place of a report, and the place past it, through a view.
+pub fn count(report: &[u8], at: usize, node: usize) -> Count
+    requires { at ≤ length report.now }
+    ensures { (result.count ≡ count_at report.now at node) × (result.past ≡ past_count report.now at node) }
+{
+    View::over(report, at).count(node)
 }

@@ -1,5 +1,4 @@
 -- `bits::clear` meets its contract: the bit is set by "or", and "exclusive or" with the one bit then clears it.
-use borrow.Author.Rules.{rules}
 use Rattle.bits.proofs.Laws.{one_shifted, clear_puts}
 use Rattle.bits.proofs.clear.Goals as goal
 

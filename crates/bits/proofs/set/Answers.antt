@@ -1,5 +1,4 @@
 -- `bits::set` meets its contract: "or" with the one bit sets it, and leaves the others.
-use borrow.Author.Rules.{rules}
 use Rattle.bits.proofs.Laws.{one_shifted, set_puts}
 use Rattle.bits.proofs.set.Goals as goal
 

@@ -1,7 +1,6 @@
 -- `bits::test` meets its contract: a mask of 1 leaves the lowest digit of the shifted word.
 use mathlib.Core.Path.{ap}
 use Prim.Native.Nat.{ℕ, ◌/◌, ◌^◌}
-use borrow.Author.Rules.{rules}
 use lib.Dec.{eqb}
 use lib.Bits.{and_mask}
 use Rattle.bits.specs.Bits.{bit}

@@ -1,13 +1,8 @@
 -- `cells::join` meets its contract: its record, taken at k, is the loop's invariant.
-use mathlib.Core.Path.{◌≡◌, refl, ap, ◌∙◌, subst}
-use mathlib.Core.Bool.{Bool}
-use Prim.Native.Nat.{ℕ, ◌≤◌, ◌-◌}
-use native.Mathlib.Nat.{le_antisymm}
-use native.Mathlib.Omega.{arith}
-use lib.ListN.{length, get_or, length-set}
-use Rattle.cells.specs.Cells.{entry_of, merged, cell_at, Joined}
-use Rattle.cells.proofs.Rowwise.{joined_none, joined_more}
-use borrow.Author.Rules.{rules}
+use mathlib.Core.Path.{◌≡◌}
+use Prim.Native.Nat.{◌≤◌, ◌-◌}
+use lib.ListN.{length}
+use Rattle.cells.specs.Cells.{Joined}
 use Rattle.cells.proofs.join.Given as goal
 
 abbrev pub invariant-loop-k : goal.invariant-loop-k

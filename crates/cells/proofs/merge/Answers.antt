@@ -1,6 +1,5 @@
 -- `cells::merge` meets its contract: each way out is one case of what an entry makes of a cell.
 use mathlib.Core.Path.{◌≡◌, sym, ◌∙◌}
-use mathlib.Core.Logic.{⊎_elim}
 use mathlib.Core.Bool.{true, false, ◌&&◌}
 use Prim.Native.Nat.{◌%◌}
 use lib.Dec.{eqb}

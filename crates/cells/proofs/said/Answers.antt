@@ -1,7 +1,6 @@
 -- `cells::said` meets its contract: each way out is one case of what is said of a cell.
 use mathlib.Core.Path.{sym, ◌∙◌}
 use Rattle.cells.proofs.Cellwise.{said_zero, said_spared, said_direct, said_clear}
-use borrow.Author.Rules.{rules}
 use Rattle.cells.proofs.said.Goals as goal
 
 pub returns-then-count-eq0 : goal.returns-then-count-eq0

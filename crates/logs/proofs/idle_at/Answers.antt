@@ -1,6 +1,5 @@
 -- `log::idle_at` meets its contract: the test of the length says whether the record is whole or cut short.
 use mathlib.Core.Path.{sym}
-use borrow.Author.Rules.{rules}
 use Rattle.logs.proofs.Reader.{whole_read, whole_short}
 use Rattle.logs.proofs.idle_at.Goals as goal
 

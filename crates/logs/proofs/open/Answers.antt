@@ -1,7 +1,6 @@
 -- `log::open` meets its contract: at each `return` the tests that led there say which case of `openingOf` holds.
 use Prim.Native.Nat.{◌≤◌}
 use lib.ListN.{get_or}
-use borrow.Author.Rules.{rules}
 use borrow.Author.Tests.{le-leb, lt-leb, eq-eqb, ne_eqb}
 use native.Mathlib.Omega.{arith}
 use Rattle.logs.specs.Record.{opening_of}

@@ -1,14 +1,12 @@
 -- `marks::mark` meets its contract: a row that comes back with one store is the table with that store.
 use mathlib.Core.Path.{ap, ◌∙◌}
-use Prim.Native.Nat.{suc, ◌+◌, ◌-◌, ◌*◌, ◌≤◌}
+use Prim.Native.Nat.{suc, ◌+◌, ◌-◌, ◌*◌}
 use native.Mathlib.Omega.{arith}
-use lib.ListN.{get_or, set, length-set}
+use lib.ListN.{get_or, set}
 use borrow.Rule.Slice.PartMut.{mid_of, put_mid, set_mid_at}
 use Rattle.steps.specs.Steps.{Marked}
-use Rattle.room.proofs.Places.{row_within}
 use Rattle.steps.proofs.Parts.{part_at}
 use Rattle.steps.proofs.MarkFollows.{mark_follows}
-use borrow.Author.Rules.{rules}
 use Rattle.marks.proofs.mark.Goals as goal
 
 pub returns : goal.returns

@@ -1,9 +1,5 @@
 -- `count` meets its contract: each total grows by what its record adds.
-use native.Mathlib.Omega.{arith}
-use Rattle.verdict.specs.Verdict.{event_of}
 use Rattle.passes.specs.Pass.{counted}
-use Rattle.passes.proofs.Notes.{one_most}
-use borrow.Author.Rules.{rules}
 use Rattle.passes.proofs.count.Goals as goal
 
 pub returns : goal.returns

@@ -1,15 +1,9 @@
 -- `pass` meets its contract: at the head of the loop it stands at its place, and a turn takes it on, to the end or to a refusal.
-use mathlib.Core.Path.{◌≡◌, sym, ◌∙◌}
-use mathlib.Core.List.{List, [], ◌∷◌}
+use mathlib.Core.List.{List}
 use Prim.Native.Nat.{◌-◌}
-use native.Mathlib.Omega.{arith}
 use lib.ListN.{length}
-use borrow.Author.Rules.{rules}
 use Rattle.order.specs.Order.{Event}
-use Rattle.verdict.specs.Table.{reached_first}
-use Rattle.passes.specs.Pass.{Stands, whole, halted}
-use Rattle.passes.proofs.Notes.{noted_none, noted_sized}
-use Rattle.passes.proofs.Turns.{next_stands, next_forward, last_stands, stop_halts}
+use Rattle.passes.specs.Pass.{Stands}
 use Rattle.passes.proofs.pass.Given as goal
 
 abbrev pub invariant-loop-next : goal.invariant-loop-next

@@ -1,6 +1,4 @@
 -- `show` meets its contract: only a mark has a group.
-use Rattle.passes.proofs.Notes.{written_none}
-use borrow.Author.Rules.{rules}
 use Rattle.passes.proofs.show.Goals as goal
 
 pub returns-in-Mark : goal.returns-in-Mark

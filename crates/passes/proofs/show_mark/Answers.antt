@@ -4,7 +4,6 @@ use Prim.Native.Nat.{◌*◌}
 use native.Mathlib.Omega.{arith}
 use Rattle.steps.proofs.Parts.{part_size}
 use Rattle.passes.proofs.MarkShown.{mark_row, mark_asks, mark_written}
-use borrow.Author.Rules.{rules}
 use Rattle.passes.proofs.show_mark.Goals as goal
 
 pub group-requires : goal.group-requires

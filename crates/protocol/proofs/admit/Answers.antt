@@ -2,7 +2,6 @@
 use Rattle.verdict.specs.Table.{breaks_12}
 use Rattle.protocol.specs.Admission.{refuses}
 use native.Mathlib.Omega.{arith}
-use borrow.Author.Rules.{rules}
 use Rattle.protocol.proofs.admit.Goals as goal
 
 pub returns-then-events-ge4096 : goal.returns-then-events-ge4096

@@ -1,7 +1,6 @@
 -- `admit_node` meets its contract: the test is the table's row 6.
 use Rattle.verdict.specs.Table.{breaks_6}
 use Rattle.protocol.specs.Admission.{admits, refuses}
-use borrow.Author.Rules.{rules}
 use Rattle.protocol.proofs.admit_node.Goals as goal
 
 pub returns-then-nodes-node : goal.returns-then-nodes-node

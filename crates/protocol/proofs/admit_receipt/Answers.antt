@@ -4,12 +4,10 @@ use mathlib.Core.List.{List}
 use Prim.Native.Nat.{ℕ, ◌<◌}
 use Rattle.room.specs.declared.mail.Found.{Found}
 use Rattle.room.specs.declared.mail.Found.TheVariants.{In}
-use native.Mathlib.Omega.{arith}
 use Rattle.verdict.specs.Table.{breaks_6}
 use Rattle.protocol.specs.Admission.{refuses}
 use Rattle.room.specs.Finding.{Finds, finds}
 use Rattle.protocol.proofs.Admitting.{judged_elsewhere, judged_arrived, judged_missing}
-use borrow.Author.Rules.{rules}
 use Rattle.protocol.proofs.admit_receipt.Goals as goal
 
 -- a slot that was found is one of the 128

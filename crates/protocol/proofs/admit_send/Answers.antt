@@ -2,7 +2,6 @@
 use Rattle.verdict.specs.Table.{breaks_6, breaks_6_to, breaks_7}
 use Rattle.protocol.specs.Admission.{refuses}
 use Rattle.protocol.proofs.Admitting.{judged_repeated, judged_crowded, judged_free}
-use borrow.Author.Rules.{rules}
 use Rattle.protocol.proofs.admit_send.Goals as goal
 
 pub returns-then-nodes-i : goal.returns-then-nodes-i

@@ -2,7 +2,6 @@
 use Rattle.steps.proofs.Ready.{ready_sizes, ready_nodes, ready_slot, ready_node, ready_counts, ready_mark, ready_sender}
 use Rattle.steps.proofs.MarkFollows.{idle_follows}
 use Rattle.verdict.proofs.Lawfully.{lawful_allowed}
-use borrow.Author.Rules.{rules}
 use Rattle.protocol.proofs.apply.Goals as goal
 
 pub mark-requires : goal.mark-requires

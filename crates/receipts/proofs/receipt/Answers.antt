@@ -1,9 +1,5 @@
 -- `receipts::receipt` meets its contract: the three parts that come back are the receiver's row, its columns and the slot.
-use mathlib.Core.Path.{◌∙◌}
-use Prim.Native.Nat.{◌+◌, ◌*◌, ◌≤◌}
-use native.Mathlib.Omega.{arith}
-use lib.ListN.{length-set}
-use Rattle.room.proofs.Places.{row_within}
+use Prim.Native.Nat.{◌+◌, ◌*◌}
 use Rattle.steps.proofs.Parts.{part_size}
 use Rattle.steps.proofs.LentRooms.{letter_received}
 use Rattle.steps.proofs.ReceiptFollows.{received_follows}

@@ -1,7 +1,6 @@
 -- `finish` meets its contract: by the test of the report room, and what the second pass leaves.
 use native.Mathlib.Omega.{arith}
 use Rattle.report.proofs.Endings.{zero_holds, settles_overlong, settles_complete}
-use borrow.Author.Rules.{rules}
 use Rattle.report.proofs.finish.Goals as goal
 
 pub returns-then-report-bytes : goal.returns-then-report-bytes

@@ -1,7 +1,6 @@
 -- `look` meets its contract: what the pass tells does not hang on the rooms, and they are cleared.
 use mathlib.Core.Path.{◌∙◌}
-use Rattle.report.proofs.Endings.{zero_holds, zero_sizes, passing_looked, cleared_zero, none_lent}
-use borrow.Author.Rules.{rules}
+use Rattle.report.proofs.Endings.{zero_holds, zero_sizes, passing_looked, cleared_zero}
 use Rattle.report.proofs.look.Goals as goal
 
 pub pass-passed-requires-clause-holds : goal.pass-passed-requires-clause-holds

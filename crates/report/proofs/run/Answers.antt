@@ -1,11 +1,10 @@
 -- `run` meets its contract: by whether the rooms are large enough, and what the first record says.
-use mathlib.Core.Path.{◌≡◌, sym, ◌∙◌}
+use mathlib.Core.Path.{sym, ◌∙◌}
 use Prim.Native.Nat.{◌≤◌}
-use lib.ListN.{length, take}
+use lib.ListN.{length}
 use lib.Seq.{length-take-le}
 use Rattle.verdict.specs.Table.{refused_2, refused_3}
 use Rattle.report.proofs.Endings.{cleared_large, cleared_fronts, ran_cramped, ran_refused, ran_settled}
-use borrow.Author.Rules.{rules}
 use Rattle.report.proofs.run.Goals as goal
 
 pub settle-requires-clause-zero : goal.settle-requires-clause-zero

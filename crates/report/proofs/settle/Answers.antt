@@ -1,6 +1,5 @@
 -- `settle` meets its contract: by what the look at the log told.
 use Rattle.report.proofs.Endings.{settles_refused}
-use borrow.Author.Rules.{rules}
 use Rattle.report.proofs.settle.Goals as goal
 
 pub returns-in-Halted : goal.returns-in-Halted

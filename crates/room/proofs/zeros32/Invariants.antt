@@ -1,12 +1,8 @@
 -- `room::zeros32` meets its contract: after k stores the first k elements are zero.
-use mathlib.Core.Path.{◌≡◌, refl, ap, ◌∙◌}
+use mathlib.Core.Path.{◌≡◌}
 use mathlib.Core.List.{◌++◌}
 use Prim.Native.Nat.{◌-◌, ◌≤◌}
-use native.Mathlib.Nat.{le_antisymm}
-use native.Mathlib.Omega.{arith}
-use borrow.Author.Fill.{fill_none, fill_more}
-use lib.ListN.{length, set, drop, replicate, length-set}
-use borrow.Author.Rules.{rules}
+use lib.ListN.{length, drop, replicate}
 use Rattle.room.proofs.zeros32.Given as goal
 
 abbrev pub invariant-loop-k : goal.invariant-loop-k

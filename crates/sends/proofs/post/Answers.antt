@@ -1,12 +1,7 @@
 -- `sends::post` meets its contract: the part of the mail that comes back packed is the letter.
-use mathlib.Core.Path.{◌∙◌}
-use Prim.Native.Nat.{◌+◌, ◌-◌, ◌*◌, ◌≤◌}
-use native.Mathlib.Omega.{arith}
-use lib.ListN.{length-set}
-use Rattle.room.proofs.Places.{row_within}
-use Rattle.steps.proofs.Parts.{part_size, part_bounded}
+use Prim.Native.Nat.{◌+◌, ◌*◌}
+use Rattle.steps.proofs.Parts.{part_size}
 use Rattle.steps.proofs.LentRooms.{letter_posted}
-use borrow.Author.Rules.{rules}
 use Rattle.sends.proofs.post.Goals as goal
 
 pub returns : goal.returns

@@ -1,6 +1,5 @@
 -- `log::Cursor::step` meets its contract: at each `return` the kind says which row of `recordAt` holds.
 use mathlib.Core.Path.{sym, ◌∙◌}
-use borrow.Author.Rules.{rules}
 use Rattle.logs.proofs.Reader.{record_end, record_idle, record_mark, record_send, record_receipt, record_unknown}
 use Rattle.logs.proofs.Cursor.step.Goals as goal
 

@@ -1,10 +1,6 @@
 -- `mail::find` meets its contract: none of the slots that were passed has the letter.
-use mathlib.Core.Path.{◌≡◌, refl}
-use mathlib.Core.Logic.{⊎_elim}
-use Prim.Native.Nat.{ℕ, ◌*◌, ◌-◌, ◌<◌, ◌≤◌}
 use native.Mathlib.Omega.{arith}
-use borrow.Author.Count.{below_none, below_more}
-use Rattle.room.specs.Finding.{Bears, finds, misses}
+use Rattle.room.specs.Finding.{finds, misses}
 use Rattle.room.proofs.mail.find.Goals as goal
 
 pub returns-then-mail-at : goal.returns-then-mail-at

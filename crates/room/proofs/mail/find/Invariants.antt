@@ -1,10 +1,7 @@
 -- `mail::find` meets its contract: none of the slots that were passed has the letter.
-use mathlib.Core.Path.{◌≡◌, refl}
-use mathlib.Core.Logic.{⊎_elim}
+use mathlib.Core.Path.{◌≡◌}
 use Prim.Native.Nat.{ℕ, ◌*◌, ◌-◌, ◌<◌, ◌≤◌}
-use native.Mathlib.Omega.{arith}
-use borrow.Author.Count.{below_none, below_more}
-use Rattle.room.specs.Finding.{Bears, finds, misses}
+use Rattle.room.specs.Finding.{Bears}
 use Rattle.room.proofs.mail.find.Given as goal
 
 abbrev pub invariant-loop-slot : goal.invariant-loop-slot

@@ -1,6 +1,5 @@
 -- `mail::look` meets its contract: each way out is one case of the definition.
 use mathlib.Core.Path.{◌≡◌, sym, ◌∙◌}
-use mathlib.Core.Logic.{⊎_elim}
 use mathlib.Core.Bool.{◌||◌, or-true, or-false}
 use Prim.Native.Nat.{min}
 use native.Mathlib.Numerals.{add-one}
@@ -8,7 +7,6 @@ use native.Mathlib.Omega.{arith}
 use lib.Dec.{eqb}
 use borrow.Author.Tests.{eq-eqb, ne_eqb}
 use Rattle.room.specs.Finding.{looked}
-use borrow.Author.Rules.{rules}
 use Rattle.room.proofs.mail.look.Goals as goal
 use Rattle.room.proofs.mail.look.Goals.{else-borne-number, then-borne-number}
 

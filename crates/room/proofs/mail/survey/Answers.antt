@@ -1,7 +1,5 @@
 -- `mail::survey` meets its contract: after k slots it knows what the definition says of k slots.
-use mathlib.Core.Path.{◌≡◌, refl, ap, ◌∙◌}
-use Prim.Native.Nat.{◌*◌, ◌-◌, ◌≤◌}
-use native.Mathlib.Nat.{le_antisymm}
+use mathlib.Core.Path.{refl}
 use native.Mathlib.Omega.{arith}
 use Rattle.room.specs.Finding.{surveyed}
 use Rattle.room.proofs.Surveying.{surveyed_flying, surveyed_more}

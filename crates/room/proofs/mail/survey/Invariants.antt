@@ -1,10 +1,7 @@
 -- `mail::survey` meets its contract: after k slots it knows what the definition says of k slots.
-use mathlib.Core.Path.{◌≡◌, refl, ap, ◌∙◌}
+use mathlib.Core.Path.{◌≡◌}
 use Prim.Native.Nat.{◌*◌, ◌-◌, ◌≤◌}
-use native.Mathlib.Nat.{le_antisymm}
-use native.Mathlib.Omega.{arith}
 use Rattle.room.specs.Finding.{surveyed}
-use Rattle.room.proofs.Surveying.{surveyed_flying, surveyed_more}
 use Rattle.room.proofs.mail.survey.Given as goal
 
 abbrev pub invariant-loop-slot : goal.invariant-loop-slot

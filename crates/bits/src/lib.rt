@@ -5,6 +5,7 @@ ghost use Rattle.std.specs.Prelude.{◌≡◌, true, false, ◌<◌, ◌^◌};
 ghost use Rattle.bits.specs.Bits.{bit, Put, meets, set_below};
 
 // Whether flag k is set.
+#[tactic(auto, using(std::proofs::lemmas::Nat::Bits::shr_and_one), unfolding(crate::specs::Bits::bit))]
 pub fn test(word: u32, k: u32) -> bool
     requires { k < 32 }
     ensures { result ≡ bit word k }
@@ -17,24 +18,25 @@ pub fn only(k: u32) -> u32
     requires { k < 32 }
     ensures { result ≡ 2 ^ k }
 {
-    1u32 << k
+    1 << k
 }
 
 // The word with flag k set.
+#[tactic(auto, using(crate::proofs::Laws::set_puts))]
 pub fn set(word: u32, k: u32) -> u32
     requires { k < 32 }
     ensures { Put word k true result }
 {
-    word | (1u32 << k)
+    word | only(k)
 }
 
 // The word with flag k clear.
+#[tactic(auto, using(crate::proofs::Laws::clear_puts))]
 pub fn clear(word: u32, k: u32) -> u32
     requires { k < 32 }
     ensures { Put word k false result }
 {
-    let flag = 1u32 << k;
-    (word | flag) ^ flag
+    word & !only(k)
 }
 
 // The word with flag k as given.
@@ -46,6 +48,7 @@ pub fn put(word: u32, k: u32, flag: bool) -> u32
 }
 
 // Whether some flag is set in both words.
+#[tactic(auto, unfolding(crate::specs::Bits::meets))]
 pub fn common(word: u32, other: u32) -> bool
     ensures { result ≡ meets word other }
 {
@@ -53,8 +56,9 @@ pub fn common(word: u32, other: u32) -> bool
 }
 
 // How many flags are set.
+#[tactic(auto, using(crate::proofs::Laws::ones_set))]
 pub fn count(word: u32) -> u32
     ensures { result ≡ set_below 32 word }
 {
-    u32::count_ones(word)
+    word.count_ones()
 }

@@ -1,4 +1,4 @@
--- Entries as numbers and columns as words: each of the machine's functions on entries and columns, by the cases of its tests.
+-- Entries as numbers, what an entry makes of a cell, and columns as words: each by the cases of its tests.
 -- Assumes nothing.
 use mathlib.Core.Path.{◌≡◌, refl, sym, ◌∙◌, ap, ap₂}
 use mathlib.Core.Logic.{◌≢◌}
@@ -8,14 +8,15 @@ use native.Mathlib.Omega.{arith}
 use borrow.Author.Tests.{ne_eqb, lt-ltb}
 use lib.Dec.{eqb, ltb}
 use lib.Bits.{bit_or}
-use Rattle.bits.specs.Bits.{bit, meets}
+use Rattle.bits.specs.Bits.{bit}
 use Rattle.bits.proofs.Laws.{bit_one, bit_or_one, digit_small}
-use Rattle.machine.specs.Machine.{put, Entry, absent, present}
-use Rattle.machine.specs.Short.{offer, note}
+use Rattle.machine.specs.Machine.{put, Entry, absent, present, take_count, take_flag, meet}
+use Rattle.machine.specs.Short.{note}
 use Rattle.machine.specs.Answer.{weight, entries}
 use Rattle.machine.proofs.Small.{put_cases, put_both}
 use Rattle.cells.specs.declared.Cell.{Cell}
-use Rattle.cells.specs.Cells.{code_of, entry_of, said_of, note_word}
+use Rattle.std.proofs.lemmas.Bool.Decides.{nat_tests}
+use Rattle.cells.specs.Cells.{code_of, entry_of, note_word, merged}
 
 -- ---- entries as numbers
 
@@ -39,15 +40,18 @@ pub code_bound : (e : Entry) (b : ℕ) → ((c : ℕ) (x : Bool) → e ≡ prese
 code_bound absent b h = omega arith
 code_bound (present c x) b h = omega (arith, h c x refl, digit_small x)
 
--- what is said of a cell counts one, unless its number is 0
-pub said_weight : (spared : ℕ) (x : Cell) → weight (said_of spared x) ≡ cond (eqb (code_of (said_of spared x)) 0) 0 1
-unfolding said_of offer weight
-said_weight spared x = go x.count x.direct (x.direct && meets x.column spared)
-  where
-    go : (c : ℕ) (x spared : Bool) → weight (offer c x spared) ≡ cond (eqb (code_of (offer c x spared)) 0) 0 1
-    go zero x spared = refl
-    go (suc c) x true = refl
-    go (suc c) x false = rw (ne_eqb (2 * suc c + cond x 1 0) 0 (λ z. omega arith))
+-- ---- cells after an entry
+
+pub merged_absent : (sender : ℕ) (x : Cell) → merged sender absent x ≡ x
+unfolding merged note_word take_count take_flag
+merged_absent sender x = refl
+
+-- a larger count comes with its flag and its sender alone, an equal one leaves the lesser flag and adds its sender
+pub merged_present : (sender c : ℕ) (y : Bool) (x : Cell) → merged sender (present c y) x
+    ≡ cond (ltb x.count c) (record { count = c; column = sender; direct = y })
+    (cond (ltb c x.count) x (record { count = x.count; column = bit_or x.column sender; direct = x.direct && y }))
+unfolding merged note_word take_count take_flag meet
+merged_present sender c y x = grind (arith, nat_tests)
 
 -- ---- columns as words
 

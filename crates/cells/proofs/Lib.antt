@@ -1,4 +1,2 @@
-pub mod Cellwise
-pub mod Rowwise
 pub mod Entries
 pub mod OneResult

@@ -1,12 +1,18 @@
 -- A node's cell for another node, what a letter says of it, what an entry makes of it, and a row of cells.
 -- Assumes nothing.
-use Rattle.std.specs.Prelude.{◌≡◌, ◌&&◌, cond, List, ℕ, ◌+◌, ◌*◌, ◌/◌, ◌%◌, ◌<◌, ◌≤◌, eqb, ltb, get_or}
+use Rattle.std.specs.Prelude.{◌≡◌, ◌&&◌, cond, List, ℕ, ◌+◌, ◌*◌, ◌/◌, ◌%◌, ◌<◌, ◌≤◌, eqb, ltb, get_or, Option, Some, None}
 use Rattle.std.specs.Int.Bits.{bit_or}
 use Rattle.machine.specs.Machine.{Entry, absent, present, take_count, take_flag}
 use Rattle.machine.specs.Short.{offer}
 use Rattle.machine.specs.Answer.{entries}
 use Rattle.bits.specs.Bits.{bit, meets}
 use Rattle.cells.specs.declared.Cell.{Cell}
+use Rattle.cells.specs.declared.Entry as told
+
+-- an entry of the code as one of the machines
+abbrev pub entry_said : Option told.Entry → Entry
+entry_said None = absent
+entry_said (Some e) = present e.count e.direct
 
 -- an entry as a number: 0 if it is not carried, else twice the count, and 1 more if its flag is set; and back
 abbrev pub code_of : Entry → ℕ

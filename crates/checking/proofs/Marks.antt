@@ -11,24 +11,23 @@ use native.Mathlib.Omega.{arith}
 use lib.Dec.{eqb, ltb}
 use lib.ListN.{length, get_or, set, length-set}
 use lib.Seq.{get_or-set_same, get_or-set_other}
-use borrow.Author.Tests.{eq-eqb, ne_eqb, eqb-true, le-ltb, lt-ltb}
+use borrow.Author.Tests.{eq-eqb, eqb-true, le-ltb, lt-ltb}
+use Rattle.std.specs.Prelude.{None, Some, Ok}
+use Rattle.std.specs.Bool.{then_some}
+use Rattle.std.specs.Option.{option_or}
+use Rattle.std.proofs.lemmas.Option.{some_pair_parts}
 use Rattle.reading.proofs.Standing.{both}
 use Rattle.shape.specs.declared.Mark.{Mark}
-use Rattle.shape.specs.declared.Group.TheVariants.{Good}
 use Rattle.reading.specs.Reading.{node_at, number_here}
 use Rattle.shape.specs.Shape.{group_fits, mark_here, group_seen}
 use Rattle.shape.proofs.FittingGroup.{group_parts}
 use Rattle.shape.proofs.GroupSeen.{seen_fits}
 use Rattle.checking.specs.WellFormed.{same_mark, group_place, place_among, AllGood}
+use Rattle.checking.specs.Surveyed.{place_found}
 use Rattle.checking.specs.Greatest.{Greatest}
 use Rattle.checking.proofs.Walked.{good_parts, good_inside}
 
 -- ---- two marks
-
--- other nodes, other marks
-pub mark_apart : (e f : Mark) → ¬ (e.node.0 ≡ f.node.0) → same_mark e f ≡ false
-unfolding same_mark
-mark_apart e f h = rw (ne_eqb _ _ h)
 
 -- on one node the number decides
 pub mark_number : (e f : Mark) → e.node.0 ≡ f.node.0 → same_mark e f ≡ eqb e.number.0 f.number.0
@@ -130,6 +129,33 @@ module _ (report : List ℕ) where
         go before (inl same) = rw (same, among_here m (mark_same _ _ (rw same at is)))
         go before (inr k) = here _ refl (before k)
 
+    -- ---- the place that is found
+
+    -- one within the report
+    pub found_inside : (m : ℕ) → place_among report m e < length report → place_found report m e ≡ Some (place_among report m e)
+    unfolding place_found
+    found_inside m h = rw (lt-ltb _ _ h)
+
+    -- else none, as in no groups
+    pub found_nowhere : (m : ℕ) → length report ≤ place_among report m e → place_found report m e ≡ None
+    unfolding place_found
+    found_nowhere m h = rw (le-ltb _ _ h)
+
+    pub found_none : place_found report 0 e ≡ None
+    unfolding place_among
+    found_none = found_nowhere 0 (omega arith)
+
+    -- one group more: its own place, if it is of the mark
+    pub found_more : (m : ℕ) → group_place report m < length report
+        → place_found report (suc m) e ≡ option_or (then_some (same_mark (mark_here report (group_place report m)) e) (group_place report m)) (place_found report m e)
+    unfolding place_found place_among
+    found_more m inside = go _ refl
+      where
+        go : (b : Bool) → same_mark (mark_here report (group_place report m)) e ≡ b
+            → place_found report (suc m) e ≡ option_or (then_some (same_mark (mark_here report (group_place report m)) e) (group_place report m)) (place_found report m e)
+        go true here = rw (here, lt-ltb _ _ inside)
+        go false other = rw other
+
     -- ---- a search from the front
 
     -- none of the first k groups has it, and the place behind them is reached
@@ -143,32 +169,25 @@ module _ (report : List ℕ) where
     unfound_none m = record { few = omega arith; reached = refl; none = refl }
 
     module _ {m k at : ℕ} (u : Unfound m k at) where
-      -- at the end none has it
-      pub unfound_end : m ≤ k → false ≡ ltb (place_among report m e) (length report)
-      unfound_end h =
-          let all : m ≡ k = omega arith in
-          let none : length report ≤ place_among report m e = rw all (omega arith) in
-          sym (le-ltb _ _ none)
-
       module _ (all : AllGood report m) (l : k < m) where
         -- the next group is good
-        pub unfound_seen : group_seen report at ≡ Good (mark_here report (group_place report k)) (group_place report (suc k))
+        pub unfound_seen : group_seen report at ≡ Ok (Some (mark_here report (group_place report k), group_place report (suc k)))
         unfolding group_place
         unfound_seen = rw u.reached (seen_fits report (group_place report k) (good_parts report k (all k l)).1)
 
-        module _ {mark : Mark} {past : ℕ} (told : group_seen report at ≡ Good mark past) where
+        module _ {mark : Mark} {past : ℕ} (told : group_seen report at ≡ Ok (Some (mark, past))) where
+          -- what is told of it
+          told_next : (mark_here report (group_place report k) ≡ mark) × (group_place report (suc k) ≡ past)
+          told_next = some_pair_parts _ _ _ _ (cc unfound_seen)
+
           -- it has the mark
           pub unfound_here : same_mark mark e ≡ true → true ≡ ltb (place_among report m e) (length report)
-          unfound_here same =
-              let is : mark ≡ mark_here report (group_place report k) = cc unfound_seen in
-              sym (lt-ltb _ _ (among_found m k all l (rw is at same)))
+          unfound_here same = sym (lt-ltb _ _ (among_found m k all l (rw told_next.0 same)))
 
           -- or it has not
           pub unfound_more : same_mark mark e ≡ false → Unfound m (suc k) past
           unfound_more other =
-              let is : mark ≡ mark_here report (group_place report k) = cc unfound_seen in
-              let next : past ≡ group_place report (suc k) = cc unfound_seen in
-              record { few = l; reached = next; none = among_earlier k (rw is at other) ∙ u.none }
+              record { few = l; reached = sym told_next.1; none = among_earlier k (rw told_next.0 other) ∙ u.none }
 
   -- ---- the greatest numbers
 
@@ -225,13 +244,16 @@ module _ (report : List ℕ) where
       pub node_listed : e.node.0 < length table
       node_listed = omega (arith, named.0, (group_parts fits).head.below)
 
-      -- its number is above all of its node
-      pub mark_new : get_or table e.node.0 0 < e.number.0
-          → (false ≡ ltb (place_among report m e) (length report)) × Greatest report (suc m) (set table e.node.0 e.number.0)
-      mark_new h =
-          let none : length report ≤ place_among report m e = omega (arith, greatest_new e h) in
-          (sym (le-ltb _ _ none), greatest_raised e.node.0 e.number.0 (omega (arith, node_listed)) (sym named.0) (sym named.1) h)
+      -- its number is above all of its node, so that it is new and becomes the greatest
+      pub mark_new : get_or table e.node.0 0 < e.number.0 → false ≡ ltb (place_among report m e) (length report)
+      mark_new h = let none : length report ≤ place_among report m e = omega (arith, greatest_new e h) in sym (le-ltb _ _ none)
+
+      pub mark_raised : get_or table e.node.0 0 < e.number.0 → Greatest report (suc m) (set table e.node.0 e.number.0)
+      mark_raised h = greatest_raised e.node.0 e.number.0 (omega (arith, node_listed)) (sym named.0) (sym named.1) h
 
       -- or it is not
       pub mark_below : e.number.0 ≤ get_or table e.node.0 0 → Greatest report (suc m) table
       mark_below h = greatest_kept (rw (← named.0, ← named.1) h)
+
+-- all of it
+pub ruleset next_mark = (node_listed, mark_new, mark_raised, mark_below)

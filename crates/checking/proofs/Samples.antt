@@ -3,10 +3,10 @@
 use mathlib.Core.Path.{◌≡◌, refl}
 use mathlib.Core.List.{List, [], ◌∷◌, ◌++◌, map}
 use Prim.Native.Nat.{ℕ}
+use Rattle.std.specs.Prelude.{Result, Ok, Err}
 use Rattle.reading.specs.Reading.{whole_at, stamp_here, count_at, past_count, stamp_place, stamp_at}
-use Rattle.shape.specs.Shape.{in_range, entry_fits, stamp_fits, stamp_ends, causes_fit, mark_fits, head_fits, stamp_kept, causes_kept, group_fits, mark_here, past_group}
-use Rattle.checking.specs.declared.Checked.{Checked}
-use Rattle.checking.specs.declared.Checked.TheVariants.{Good, Bad}
+use Rattle.shape.specs.declared.BadGroup.{BadGroup}
+use Rattle.shape.specs.Shape.{in_range, entry_fits, stamp_fits, stamp_ends, causes_fit, mark_fits, head_fits, stamp_kept, causes_kept, group_fits, mark_here, past_group, bad_at}
 use Rattle.checking.specs.WellFormed.{same_mark, group_place, place_among, good_group}
 use Rattle.checking.specs.Surveyed.{walked, checked}
 
@@ -23,13 +23,13 @@ other = 0x21 ∷ 1 ∷ 1 ∷ 0 ∷ 1 ∷ 0x22 ∷ 0 ∷ 1 ∷ 0 ∷ 0x22 ∷ 1 �
 -- a report and what its check says
 pub record Sample : Type 0 where
   pub report : List ℕ
-  pub says : Checked
+  pub says : Result ℕ BadGroup
 
 abbrev good : ℕ → List ℕ → Sample
-good m report = record { report = report; says = Good m }
+good m report = record { report = report; says = Ok m }
 
 abbrev bad : ℕ → List ℕ → Sample
-bad p report = record { report = report; says = Bad p }
+bad p report = record { report = report; says = Err (bad_at p) }
 
 abbrev pub samples : List Sample
 samples =

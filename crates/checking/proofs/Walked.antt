@@ -13,9 +13,10 @@ use lib.Dec.{leb, ltb}
 use lib.ListN.{length}
 use borrow.Author.Tests.{ltb-true, lt-ltb, leb-true, leb-false, le-leb, lt-leb}
 use Rattle.reading.proofs.Standing.{both}
-use Rattle.shape.specs.Shape.{group_fits, mark_here}
+use Rattle.std.specs.Prelude.{Ok, Err}
+use Rattle.shape.specs.declared.BadGroup.{BadGroup}
+use Rattle.shape.specs.Shape.{group_fits, mark_here, bad_at}
 use Rattle.shape.proofs.FittingGroup.{group_inside}
-use Rattle.checking.specs.declared.Checked.TheVariants.{Good, Bad}
 use Rattle.checking.specs.WellFormed.{group_place, place_among, good_group, AllGood, WellFormed, FirstBad}
 use Rattle.checking.specs.Surveyed.{walked, checked}
 
@@ -71,7 +72,7 @@ module _ (report : List ℕ) where
   -- ---- the walk
 
   -- at the end
-  walked_end : (m turns : ℕ) → group_place report m ≡ length report → walked report (suc turns) m ≡ Good m
+  walked_end : (m turns : ℕ) → group_place report m ≡ length report → walked report (suc turns) m ≡ Ok m
   unfolding walked
   walked_end m turns e = rw (le-leb (length report) (group_place report m) (omega arith))
 
@@ -83,7 +84,7 @@ module _ (report : List ℕ) where
       rw (lt-leb (length report) (group_place report m) (omega arith), e)
 
   -- at a bad group
-  walked_bad : (m turns : ℕ) → group_place report m < length report → good_group report m ≡ false → walked report (suc turns) m ≡ Bad (group_place report m)
+  walked_bad : (m turns : ℕ) → group_place report m < length report → good_group report m ≡ false → walked report (suc turns) m ≡ Err (bad_at (group_place report m))
   unfolding walked
   walked_bad m turns h e = rw (lt-leb (length report) (group_place report m) h, e)
 
@@ -103,13 +104,13 @@ module _ (report : List ℕ) where
       ap (λ (t : ℕ). walked report t 0) (sym turns) ∙ walked_past m (suc (4096 - m)) all
 
   -- so it ends well in a well-formed report, and badly in one with a first bad group
-  pub well_formed_checked : (m : ℕ) → WellFormed report m → checked report ≡ Good m
+  pub well_formed_checked : (m : ℕ) → WellFormed report m → checked report ≡ Ok m
   well_formed_checked m well = checked_past m well.all_good ∙ walked_end m (4096 - m) well.ends_there
 
-  pub first_bad_checked : (m p : ℕ) → FirstBad report m p → checked report ≡ Bad p
+  pub first_bad_checked : (m p : ℕ) → FirstBad report m p → checked report ≡ Err (bad_at p)
   first_bad_checked m p bad =
       let there = bad.starts_there in
-      checked_past m bad.all_good ∙ walked_bad m (4096 - m) (omega arith) bad.not_good ∙ ap Bad (sym there)
+      checked_past m bad.all_good ∙ walked_bad m (4096 - m) (omega arith) bad.not_good ∙ ap (λ (q : ℕ). Err (bad_at q)) (sym there)
 
   -- ---- well formed or not
 
@@ -160,17 +161,17 @@ module _ (report : List ℕ) where
   -- ---- the answer of the walk
 
   -- It ends well, with so many groups, just where the report is so many good groups,
-  pub checked_good : (m : ℕ) → (checked report ≡ Good m) ↔ WellFormed report m
+  pub checked_good : (m : ℕ) → (checked report ≡ Ok m) ↔ WellFormed report m
   checked_good m = (λ e. go e well_formed_or_bad, well_formed_checked m)
     where
-      go : checked report ≡ Good m → WellOrBad report → WellFormed report m
+      go : checked report ≡ Ok m → WellOrBad report → WellFormed report m
       go e (inl (k, well)) = let same : k ≡ m = cc (well_formed_checked k well) in rw (← same) well
       go e (inr (k, p, bad)) = absurd (false≢true (cc (first_bad_checked k p bad)))
 
   -- and badly, at a place, just where the first bad group starts there.
-  pub checked_bad : (p : ℕ) → (checked report ≡ Bad p) ↔ ((m : ℕ) × FirstBad report m p)
+  pub checked_bad : (p : ℕ) → (checked report ≡ Err (bad_at p)) ↔ ((m : ℕ) × FirstBad report m p)
   checked_bad p = (λ e. go e well_formed_or_bad, λ (m, bad). first_bad_checked m p bad)
     where
-      go : checked report ≡ Bad p → WellOrBad report → (m : ℕ) × FirstBad report m p
+      go : checked report ≡ Err (bad_at p) → WellOrBad report → (m : ℕ) × FirstBad report m p
       go e (inl (k, well)) = absurd (false≢true (cc (well_formed_checked k well)))
-      go e (inr (k, q, bad)) = let same : q ≡ p = cc (first_bad_checked k q bad) in (k, rw (← same) bad)
+      go e (inr (k, q, bad)) = let same : bad_at q ≡ bad_at p = cc (first_bad_checked k q bad) in (k, rw (← ap (λ (b : BadGroup). b.place) same) bad)

@@ -1,99 +1,70 @@
 // Whether a report is well formed, and where the groups of two marks stand in it. Any bytes are taken.
 #![tactic(auto)]
 
-ghost use Rattle.std.specs.Prelude.{◌≡◌, true, cond, suc, ltb, length};
+ghost use Rattle.std.specs.Prelude.{◌≡◌, true, suc, ltb, length};
 ghost use Rattle.shape.specs.Shape.{group_fits, mark_here};
-ghost use Rattle.checking.specs.WellFormed.{same_mark, group_place, place_among, AllGood};
+ghost use Rattle.checking.specs.WellFormed.{group_place, place_among, AllGood};
 ghost use Rattle.checking.specs.Surveyed.{checked, surveyed};
 ghost use Rattle.checking.specs.Greatest.{Greatest};
 
 use logs::{MarkNumber, Node};
-use shape::{Group, Mark};
+use shape::{BadGroup, Mark};
 
-// The answer to checking a report.
-#[derive(Clone, Copy)]
-pub enum Checked {
-    // It is well formed, and has so many groups.
-    Good(usize),
-    // The place of its first bad group.
-    Bad(usize),
+// What was found in a well-formed report that was checked for two marks.
+#[derive(Clone, Copy, Drop, PartialEq, Eq)]
+pub struct Survey {
+    // How many groups it has.
+    pub groups: usize,
+    // The place of the first mark's group, if it has one.
+    pub first: Option<usize>,
+    // The place of the second mark's group, if it has one.
+    pub second: Option<usize>,
 }
 
-// The answer to checking a report and looking for two marks in it.
-#[derive(Clone, Copy)]
-pub enum Survey {
-    // It is well formed: how many groups it has, and the places of the marks' groups, or the report's length for a mark
-    // that has none.
-    Whole(usize, usize, usize),
-    // The place of its first bad group.
-    Broken(usize),
-}
+// How many groups a report may have.
+const MOST_GROUPS: usize = 4096;
 
-// Checks a report. No group is of the mark that it looks for on the way.
-pub fn check(report: &[u8]) -> Checked
+// Checks a report, and counts its groups. No group is of the mark that it looks for on the way.
+#[tactic(auto, unfolding(crate::specs::Surveyed::survey_of))]
+pub fn check(report: &[u8]) -> Result<usize, BadGroup>
     ensures { result ≡ checked report.now }
 {
     let nobody = Mark {
         node: Node(255),
         number: MarkNumber(0),
     };
-    match find(report, nobody, nobody) {
-        Survey::Whole(groups, _, _) => Checked::Good(groups),
-        Survey::Broken(place) => Checked::Bad(place),
-    }
+    find(report, nobody, nobody).map(|survey| survey.groups)
 }
 
 // Checks a report in one pass and finds the groups of two marks on the way.
-pub fn find(report: &[u8], first: Mark, second: Mark) -> Survey
+#[tactic(auto, using(crate::proofs::Walking::walking))]
+pub fn find(report: &[u8], first: Mark, second: Mark) -> Result<Survey, BadGroup>
     ensures { result ≡ surveyed report.now first second }
 {
-    let mut greatest = [0u16; 32];
-    let mut groups: usize = 0;
-    let mut at: usize = 0;
-    let mut first_at = report.len();
-    let mut second_at = report.len();
-    loop {
-        match view::group(report, at) {
-            Group::End => return Survey::Whole(groups, first_at, second_at),
-            Group::Bad => return Survey::Broken(at),
-            Group::Good(mark, past) => {
-                if groups == 4096 {
-                    return Survey::Broken(at);
-                }
-                if repeated(report, groups, mark, &mut greatest) {
-                    return Survey::Broken(at);
-                }
-                first_at = place_of(first, mark, at, first_at);
-                second_at = place_of(second, mark, at, second_at);
-                at = past;
-                groups += 1;
-            }
+    let mut greatest = [0; 32];
+    let mut survey = Survey {
+        groups: 0,
+        first: None,
+        second: None,
+    };
+    let mut at = 0;
+    while let Some((mark, past)) = view::group(report, at)? {
+        if survey.groups == MOST_GROUPS || repeated(report, survey.groups, mark, &mut greatest) {
+            return Err(BadGroup { place: at });
         }
+        survey = Survey {
+            groups: survey.groups + 1,
+            first: (mark == first).then_some(at).or(survey.first),
+            second: (mark == second).then_some(at).or(survey.second),
+        };
+        at = past;
     }
-}
-
-// The place of the wanted mark's group: this one, if this group is of it, else the one found earlier.
-fn place_of(wanted: Mark, mark: Mark, at: usize, earlier: usize) -> usize
-    ensures { result ≡ cond (same_mark mark wanted) at earlier }
-{
-    if same(mark, wanted) {
-        return at;
-    }
-    earlier
-}
-
-// Whether two marks are one.
-fn same(one: Mark, other: Mark) -> bool
-    ensures { result ≡ same_mark one other }
-{
-    if one.node.0 != other.node.0 {
-        return false;
-    }
-    one.number.0 == other.number.0
+    Ok(survey)
 }
 
 // Whether one of the first groups is of this mark, the one of the group behind them. Only a number that is not above all of its
 // node so far costs a search.
+#[tactic(auto, using(crate::proofs::Marks::next_mark))]
 fn repeated(report: &[u8], groups: usize, mark: Mark, greatest: &mut [u16]) -> bool
     requires all_good { AllGood report.now groups }
     requires greatest { Greatest report.now groups greatest.old }
@@ -115,20 +86,15 @@ fn search(report: &[u8], groups: usize, mark: Mark) -> bool
     requires { AllGood report.now groups }
     ensures { result ≡ ltb (place_among report.now groups mark) (length report.now) }
 {
-    let mut at: usize = 0;
-    let mut k: usize = 0;
-    while k < groups {
-        match view::group(report, at) {
-            Group::Good(other, past) => {
-                if same(other, mark) {
-                    return true;
-                }
-                at = past;
-            }
-            Group::Bad => return false,
-            Group::End => return false,
+    let mut at = 0;
+    for _ in 0..groups {
+        let Ok(Some((other, past))) = view::group(report, at) else {
+            return false;
+        };
+        if other == mark {
+            return true;
         }
-        k += 1;
+        at = past;
     }
     false
 }

@@ -15,31 +15,7 @@ pub fn totals(
     room: &mut [u8; 4096],
 ) -> usize
     ensures laid { Laid 0 (ok_line events marks sends carried) room.old room.new result }
-    ensures value { 4096 ≡ length room.new }
-{
-    lay_totals(events, marks, sends, carried, room)
-}
-
-// The line of a refusal.
-pub fn refusal(number: u8, place: usize, room: &mut [u8; 4096]) -> usize
-    ensures laid { Laid 0 (refused_line number place) room.old room.new result }
-    ensures value { 4096 ≡ length room.new }
-{
-    lay_refusal(number, place, room)
-}
-
-// The line for an input past its bound.
-pub fn too_long(room: &mut [u8; 4096]) -> usize
-    ensures laid { Laid 0 too_long room.old room.new result }
-    ensures value { 4096 ≡ length room.new }
-{
-    words::word(b"too long\n", 0, room)
-}
-
-// The line of `totals`, over a slice of 4,096 bytes.
-fn lay_totals(events: usize, marks: usize, sends: usize, carried: usize, room: &mut [u8]) -> usize
-    requires { length room.old ≡ 4096 }
-    ensures { Laid 0 (ok_line events marks sends carried) room.old room.new result }
+    ensures length_kept { 4096 ≡ length room.new }
 {
     let mut at = words::word(b"ok ", 0, room);
     at = words::counted(events, b" events ", at, room);
@@ -48,12 +24,20 @@ fn lay_totals(events: usize, marks: usize, sends: usize, carried: usize, room: &
     words::counted(carried, b" carried\n", at, room)
 }
 
-// The line of `refusal`, over a slice of 4,096 bytes.
-fn lay_refusal(number: u8, place: usize, room: &mut [u8]) -> usize
-    requires { length room.old ≡ 4096 }
-    ensures { Laid 0 (refused_line number place) room.old room.new result }
+// The line of a refusal.
+pub fn refusal(number: u8, place: usize, room: &mut [u8; 4096]) -> usize
+    ensures laid { Laid 0 (refused_line number place) room.old room.new result }
+    ensures length_kept { 4096 ≡ length room.new }
 {
     let mut at = words::word(b"refused ", 0, room);
     at = words::counted(number as usize, b" at ", at, room);
     words::counted(place, b"\n", at, room)
+}
+
+// The line for an input past its bound.
+pub fn too_long(room: &mut [u8; 4096]) -> usize
+    ensures laid { Laid 0 too_long room.old room.new result }
+    ensures length_kept { 4096 ≡ length room.new }
+{
+    words::word(b"too long\n", 0, room)
 }

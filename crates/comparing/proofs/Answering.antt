@@ -6,23 +6,38 @@ use mathlib.Core.List.{List}
 use Prim.Native.Nat.{ℕ, ◌+◌, ◌≤◌, ◌<◌}
 use native.Mathlib.Omega.{arith}
 use lib.ListN.{length}
-use borrow.Author.Tests.{le-leb, lt-leb}
+use borrow.Author.Tests.{ltb-true}
+use Rattle.std.specs.Prelude.{None, Some, Result, Ok, Err}
+use Rattle.std.proofs.lemmas.Option.{cond_some}
 use Rattle.shape.specs.declared.Mark.{Mark}
-use Rattle.checking.specs.declared.Checked.{Checked}
-use Rattle.checking.specs.declared.Checked.TheVariants.{Good, Bad}
-use Rattle.checking.specs.declared.Survey.TheVariants.{Whole, Broken}
+use Rattle.shape.specs.declared.BadGroup.{BadGroup}
+use Rattle.checking.specs.declared.Survey.{Survey}
 use Rattle.checking.specs.WellFormed.{place_among}
-use Rattle.checking.specs.Surveyed.{checked, survey_of, surveyed, survey_number, survey_place}
+use Rattle.checking.specs.Surveyed.{checked, place_found, survey_of, surveyed, survey_number, survey_place}
 use Rattle.checking.proofs.Walked.{checked_good}
 use Rattle.checking.proofs.Walking.{survey_whole, survey_broken}
 use Rattle.checking.proofs.Marks.{among_long}
-use Rattle.comparing.specs.declared.Compared.TheVariants.{NotWellFormed, FirstAbsent, SecondAbsent}
+use Rattle.comparing.specs.declared.Incomparable.TheVariants.{NotWellFormed, FirstAbsent, SecondAbsent}
 use Rattle.comparing.specs.Compare.{number_of, place_of, stamp_of, ordered, compared_at, compared_in, compared}
 
+-- a place that is found is that of the mark's group, within the report
+pub found_at : (report : List ℕ) (m : ℕ) (e : Mark) {p : ℕ} → place_found report m e ≡ Some p → (place_among report m e ≡ p) × (p < length report)
+unfolding place_found
+found_at report m e told =
+    let (inside, there) = cond_some _ _ _ told in
+    (there, rw there at (ltb-true _ _ inside))
+
+-- behind the head of a group that is found a stamp stands
+stamp_behind : (report : List ℕ) (m : ℕ) → checked report ≡ Ok m → (e : Mark) (p : ℕ) → place_found report m e ≡ Some p → p + 5 ≤ length report
+stamp_behind report m well e p found =
+    let (there, inside) = found_at report m e found in
+    omega (arith, among_long report e m ((checked_good report m).0 well).all_good (omega arith))
+
 module _ (report : List ℕ) (e f : Mark) where
-  pub answer_broken : {p : ℕ} → surveyed report e f ≡ Broken p → NotWellFormed p ≡ compared report e f
+  -- a report that is not well formed is told so
+  pub answer_broken : (bad : BadGroup) → surveyed report e f ≡ Err bad → compared report e f ≡ Err (NotWellFormed bad.place)
   unfolding compared_in
-  answer_broken {p} told = rw (← survey_broken report e f p told)
+  answer_broken bad told = rw (survey_broken report e f bad told)
 
   -- a survey that refuses has comparing's number and place
   pub refusal_told : survey_number (surveyed report e f) ≢ 0
@@ -30,40 +45,38 @@ module _ (report : List ℕ) (e f : Mark) where
   unfolding survey_of compared_in
   refusal_told = go (checked report)
     where
-      go : (c : Checked) → survey_number (survey_of report e f c) ≢ 0
+      go : (c : Result ℕ BadGroup) → survey_number (survey_of report e f c) ≢ 0
           → (number_of (compared_in report e f c) ≡ survey_number (survey_of report e f c)) × (place_of (compared_in report e f c) ≡ survey_place (survey_of report e f c))
-      go (Good m) some = absurd (some refl)
-      go (Bad p) some = (refl, refl)
+      go (Ok m) some = absurd (some refl)
+      go (Err bad) some = (refl, refl)
 
-  module _ {m p q : ℕ} (told : surveyed report e f ≡ Whole m p q) where
-    -- the places that the survey tells are those of the marks' groups
-    places : (p ≡ place_among report m e) × (q ≡ place_among report m f)
-    unfolding survey_of
-    places =
-        let there : Whole m (place_among report m e) (place_among report m f) ≡ Whole m p q = rw (← survey_whole report e f m p q told) at told in
-        (cc, cc)
-
-    -- so the answer is that at these places
-    answer_at_lem : compared report e f ≡ compared_at report p q
+  module _ (s : Survey) (told : surveyed report e f ≡ Ok s) where
+    -- of a well-formed one the answer is that at the places which the survey tells
+    answer_at_lem : compared report e f ≡ compared_at report s.first s.second
     unfolding compared_in
-    answer_at_lem = rw (← survey_whole report e f m p q told, ← places.0, ← places.1)
+    answer_at_lem = let (well, first, second) = survey_whole report e f s told in rw (well, first, second)
 
-    pub answer_first : length report ≤ p → FirstAbsent ≡ compared report e f
+    -- so the first mark is absent
+    pub answer_first : s.first ≡ None → compared report e f ≡ Err FirstAbsent
     unfolding compared_at
-    answer_first h = sym (answer_at_lem ∙ rw (le-leb _ _ h))
+    answer_first none = rw (answer_at_lem, none)
 
-    pub answer_second : p < length report → length report ≤ q → SecondAbsent ≡ compared report e f
+    -- or the second one
+    pub answer_second : (p : ℕ) → s.first ≡ Some p → s.second ≡ None → compared report e f ≡ Err SecondAbsent
     unfolding compared_at
-    answer_second h l = sym (answer_at_lem ∙ rw (lt-leb _ _ h, le-leb _ _ l))
+    answer_second p here none = rw (answer_at_lem, here, none)
 
-    module _ (h : p < length report) (l : q < length report) where
-      -- both groups lie within the report
-      pub answer_inside : (p + 5 ≤ length report) × (q + 5 ≤ length report)
-      answer_inside =
-          let well = (checked_good report m).0 (sym (survey_whole report e f m p q told)) in
-          let (first, second) = places in
-          (omega (arith, among_long report e m well.all_good (omega arith)), omega (arith, among_long report f m well.all_good (omega arith)))
+    -- or their stamps decide
+    pub answer_both : (p q : ℕ) → s.first ≡ Some p → s.second ≡ Some q → compared report e f ≡ Ok (ordered (stamp_of report p) (stamp_of report q))
+    unfolding compared_at
+    answer_both p q here there = rw (answer_at_lem, here, there)
 
-      pub answer_ordered : ordered (stamp_of report p) (stamp_of report q) ≡ compared report e f
-      unfolding compared_at
-      answer_ordered = sym (answer_at_lem ∙ rw (lt-leb _ _ h, lt-leb _ _ l))
+    -- a stamp stands at each, behind a head
+    pub first_inside : (p : ℕ) → s.first ≡ Some p → p + 5 ≤ length report
+    first_inside p here = let (whole, first, second) = survey_whole report e f s told in stamp_behind report s.groups whole e p (sym first ∙ here)
+
+    pub second_inside : (p : ℕ) → s.second ≡ Some p → p + 5 ≤ length report
+    second_inside p here = let (whole, first, second) = survey_whole report e f s told in stamp_behind report s.groups whole f p (sym second ∙ here)
+
+-- what comparing has to show on its way
+pub ruleset answering = (answer_broken, answer_first, answer_second, answer_both, first_inside, second_inside)

@@ -8,9 +8,9 @@ use Prim.Native.Nat.{ℕ, ◌<◌}
 use native.Mathlib.Omega.{arith}
 use borrow.Author.Tests.{not-true}
 use Rattle.reading.proofs.Standing.{both}
-use Rattle.comparing.specs.declared.Compared.{Compared}
-use Rattle.comparing.specs.declared.Compared.TheVariants.{Before, After, Apart}
-use Rattle.comparing.specs.Compare.{number_of, exceeds, differs, ordered}
+use Rattle.comparing.specs.declared.Standing.{Standing}
+use Rattle.comparing.specs.declared.Standing.TheVariants.{Before, After, Apart}
+use Rattle.comparing.specs.Compare.{exceeds, differs, ordered}
 use Rattle.comparing.specs.Table.{Under}
 use Rattle.comparing.proofs.Exceeding.{exceeds_none, differs_some}
 
@@ -48,13 +48,13 @@ lies_under s t = (there, back)
 -- ---- the answer
 
 -- what an answer says of two stamps
-pub data Says (s t : ℕ → ℕ) : Compared → Type 0 where
+pub data Says (s t : ℕ → ℕ) : Standing → Type 0 where
   says_before : Under s t → Says s t Before
   says_after : Under t s → Says s t After
   says_apart : ¬ Under s t → ¬ Under t s → Says s t Apart
 
 -- only one answer does
-says_one : {s t : ℕ → ℕ} {r q : Compared} → Says s t r → Says s t q → r ≡ q
+says_one : {s t : ℕ → ℕ} {r q : Standing} → Says s t r → Says s t q → r ≡ q
 says_one (says_before u) (says_before v) = refl
 says_one (says_before u) (says_after v) = absurd (under_asymmetric u v)
 says_one (says_before u) (says_apart n m) = absurd (n u)
@@ -101,17 +101,8 @@ module _ (s t : ℕ → ℕ) where
 pub ordered_same : {s s' t t' : ℕ → ℕ} → ((k : ℕ) → k < 32 → s k ≡ s' k) → ((k : ℕ) → k < 32 → t k ≡ t' k) → ordered s t ≡ ordered s' t'
 ordered_same {s} {s'} {t} {t'} same same' = says_one (moved (ordered_says s t)) (ordered_says s' t')
   where
-    moved : {r : Compared} → Says s t r → Says s' t' r
+    moved : {r : Standing} → Says s t r → Says s' t' r
     moved (says_before u) = says_before (under_same same same' u)
     moved (says_after u) = says_after (under_same same' same u)
     moved (says_apart n m) =
         says_apart (λ u. n (under_same (λ k l. sym (same k l)) (λ k l. sym (same' k l)) u)) (λ u. m (under_same (λ k l. sym (same' k l)) (λ k l. sym (same k l)) u))
-
--- the stamps are never refused
-pub ordered_number : (s t : ℕ → ℕ) → number_of (ordered s t) ≡ 0
-ordered_number s t = go (ordered_says s t)
-  where
-    go : {r : Compared} → Says s t r → number_of r ≡ 0
-    go (says_before u) = refl
-    go (says_after u) = refl
-    go (says_apart n m) = refl

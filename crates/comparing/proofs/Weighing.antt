@@ -9,7 +9,6 @@ use native.Mathlib.Numerals.{add-one}
 use native.Mathlib.Omega.{arith}
 use lib.Dec.{ltb}
 use lib.ListN.{length}
-use borrow.Author.Tests.{ltb-true, ltb-false}
 use Rattle.reading.specs.Reading.{count_at, past_count, stamp_place, stamp_at}
 use Rattle.reading.proofs.Standing.{past_inside, place_none, place_more}
 use Rattle.comparing.specs.Compare.{exceeds, differs, ordered}
@@ -26,13 +25,6 @@ pub record Weighed (report : List ℕ) (first second k one other : ℕ) (more le
   pub more_is : more ≡ exceeds k (stamp_at report first) (stamp_at report second)
   pub less_is : less ≡ exceeds k (stamp_at report second) (stamp_at report first)
 
--- a test that sets an answer where it is passed, and else leaves it, adds itself to it
-either : (before after test : Bool) → (test ≡ true → after ≡ true) → (test ≡ false → after ≡ before) → after ≡ before || test
-either true after true set kept = set refl
-either true after false set kept = kept refl
-either false after true set kept = set refl
-either false after false set kept = kept refl
-
 module _ {report : List ℕ} {first second : ℕ} where
   pub weighed_none : first ≤ length report → second ≤ length report → Weighed report first second 0 first second false false
   unfolding exceeds
@@ -47,23 +39,21 @@ module _ {report : List ℕ} {first second : ℕ} where
         less_is = refl;
       }
 
-  -- one node more, of which these are the counts
+  -- one node more
   pub weighed_more : {k one other : ℕ} {more less : Bool} → Weighed report first second k one other more less → k < 32
-      → (a b : ℕ) → a ≡ count_at report one k → b ≡ count_at report other k
-      → (more' less' : Bool) → (b < a → more' ≡ true) → (a ≤ b → more' ≡ more) → (a < b → less' ≡ true) → (b ≤ a → less' ≡ less)
-      → Weighed report first second (k + 1) (past_count report one k) (past_count report other k) more' less'
+      → Weighed report first second (k + 1) (past_count report one k) (past_count report other k)
+      (more || ltb (count_at report other k) (count_at report one k))
+      (less || ltb (count_at report one k) (count_at report other k))
   unfolding exceeds stamp_at
-  weighed_more {k} {one} {other} {more} {less} w l a b is there more' less' up same down kept =
-      let here : a ≡ count_at report (stamp_place report first k) k = rw (← w.one_reached) is in
-      let beside : b ≡ count_at report (stamp_place report second k) k = rw (← w.other_reached) there in
+  weighed_more {k} {one} {other} w l =
       record {
         few = omega arith;
         one_inside = past_inside report one k w.one_inside;
         other_inside = past_inside report other k w.other_inside;
         one_reached = place_more report first k one w.one_reached;
         other_reached = place_more report second k other w.other_reached;
-        more_is = rw (add-one k, ← here, ← beside, ← w.more_is) (either more more' (ltb b a) (λ e. up (ltb-true b a e)) (λ e. same (ltb-false b a e)));
-        less_is = rw (add-one k, ← here, ← beside, ← w.less_is) (either less less' (ltb a b) (λ e. down (ltb-true a b e)) (λ e. kept (ltb-false a b e)));
+        more_is = rw (add-one k, w.more_is, w.one_reached, w.other_reached);
+        less_is = rw (add-one k, w.less_is, w.one_reached, w.other_reached);
       }
 
 -- ---- the two answers decide

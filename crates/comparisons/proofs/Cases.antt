@@ -5,6 +5,7 @@ use mathlib.Core.Path.{◌≡◌, refl}
 use mathlib.Core.Bool.{true}
 use mathlib.Core.List.{List, [], ◌∷◌, map}
 use Prim.Native.Nat.{ℕ}
+use Rattle.std.specs.Prelude.{Result, Ok}
 use Rattle.order.specs.Flight.{without, in_flight}
 use Rattle.logs.specs.Record.{whole_at, record_at, opening_of}
 use Rattle.verdict.specs.Verdict.{rules, walk, verdict}
@@ -25,9 +26,10 @@ use Rattle.reading.specs.Reading as reading
 use Rattle.shape.specs.declared.Mark.{Mark}
 use Rattle.shape.specs.Shape.{in_range, entry_fits, stamp_fits, stamp_ends, causes_fit, mark_fits, head_fits, stamp_kept, causes_kept, group_fits, mark_here, past_group}
 use Rattle.checking.specs.WellFormed.{same_mark, group_place, place_among, good_group}
-use Rattle.checking.specs.Surveyed.{walked, checked}
-use Rattle.comparing.specs.declared.Compared.{Compared}
-use Rattle.comparing.specs.declared.Compared.TheVariants.{Apart}
+use Rattle.checking.specs.Surveyed.{walked, checked, place_found}
+use Rattle.comparing.specs.declared.Standing.{Standing}
+use Rattle.comparing.specs.declared.Standing.TheVariants.{Apart}
+use Rattle.comparing.specs.declared.Incomparable.{Incomparable}
 use Rattle.comparing.specs.Compare.{exceeds, differs, ordered, compared_at, compared_in, compared}
 use Rattle.text.proofs.Samples.{report_a}
 
@@ -37,7 +39,7 @@ use Rattle.text.proofs.Samples.{report_a}
 pub record Pair : Type 0 where
   pub first : Mark
   pub second : Mark
-  pub answer : Compared
+  pub answer : Result Standing Incomparable
 
 -- a log, the size of the report room, what is seen of its run with full and with short messages, how many entries each short
 -- message carries, and marks of its report compared
@@ -110,16 +112,16 @@ cases =
     ∷ refuses log_a 46 13 35 47
     ∷ accepts log_b 35 9 3 3 6 3 (1 ∷ 0 ∷ 2 ∷ []) 43 report_b
     ∷ compares (0x10 ∷ 2 ∷ 0x12 ∷ 0 ∷ 0x12 ∷ 1 ∷ []) 6 2 2 0 0 0 [] 18 apart_report
-    (record { first = named 0 1; second = named 1 1; answer = Apart } ∷ [])
+    (record { first = named 0 1; second = named 1 1; answer = Ok Apart } ∷ [])
     ∷ []
 
 -- ---- the definitions give it
 
 -- what comparing says of a row's marks in the report, and what it should
-abbrev pub told : Mode → Case → List Compared
+abbrev pub told : Mode → Case → List (Result Standing Incomparable)
 told mode c = map (λ x. compared (seen mode c.log c.room).report x.first x.second) c.pairs
 
-abbrev pub wanted : Case → List Compared
+abbrev pub wanted : Case → List (Result Standing Incomparable)
 wanted c = map (λ x. x.answer) c.pairs
 
 -- how many entries each short message of a completed run carries
@@ -134,5 +136,5 @@ pub cases_hold : (map (λ c. seen Full c.log c.room) cases ≡ map (expected Ful
     × (map (λ c. seen Short c.log c.room) cases ≡ map (expected Short) cases)
     × (map (told Full) cases ≡ map wanted cases) × (map (told Short) cases ≡ map wanted cases)
     × (map (λ c. each_carries (ending c.log true c.room)) cases ≡ map (λ c. c.carried) cases)
-unfolding each_carries loads compared_in compared_at ordered exceeds differs checked walked good_group place_among group_place same_mark mark_here group_fits head_fits mark_fits stamp_kept causes_kept causes_fit stamp_fits stamp_ends entry_fits in_range past_group stamp_at stamp_place past_count count_at stamp_here reading.whole_at verdict walk rules record_at opening_of whole_at in_flight without settled ending tally_of report_of says answers answer flagged weight entries more totals full whole step start marked received meet take_count take_flag put short brief offer note learn_columns stamp_record stamp_records cause_records group_of groups_of
+unfolding each_carries loads compared_in compared_at ordered exceeds differs checked walked place_found good_group place_among group_place same_mark mark_here group_fits head_fits mark_fits stamp_kept causes_kept causes_fit stamp_fits stamp_ends entry_fits in_range past_group stamp_at stamp_place past_count count_at stamp_here reading.whole_at verdict walk rules record_at opening_of whole_at in_flight without settled ending tally_of report_of says answers answer flagged weight entries more totals full whole step start marked received meet take_count take_flag put short brief offer note learn_columns stamp_record stamp_records cause_records group_of groups_of
 cases_hold = (refl, refl, refl, refl, refl)

@@ -2,6 +2,7 @@
 -- right stamp, and no other mark has one, so the answer is the order's.
 -- Assumes nothing.
 use mathlib.Core.Path.{◌≡◌, refl, sym, ◌∙◌, ap, ap₂}
+use mathlib.Core.Logic.Iff
 use mathlib.Core.Logic.{◌↔◌, ◌⊎◌, inl, inr, ⊎_elim}
 use mathlib.Core.List.Memᴰ
 use mathlib.Core.List.{List, [], ◌∷◌, append-nil, Memᴰ}
@@ -9,7 +10,7 @@ use Prim.Native.Nat.{ℕ, ◌+◌, ◌<◌}
 use native.Mathlib.Decide.{ℕ_discrete}
 use native.Mathlib.Omega.{arith}
 use lib.ListN.{length}
-use borrow.Author.Tests.{le-leb, lt-leb}
+use Rattle.std.specs.Prelude.{Result, Ok}
 use Rattle.order.specs.Order.{Event, mark, Before}
 use Rattle.order.proofs.Places.{at_unique}
 use Rattle.order.proofs.Marks.{numbered_number, numbered_place}
@@ -22,13 +23,15 @@ use Rattle.passes.specs.Report.{report_of}
 use Rattle.reading.specs.Reading.{stamp_at}
 use Rattle.shape.specs.declared.Mark.{Mark}
 use Rattle.shape.specs.Fits.{mark_of}
-use Rattle.checking.specs.declared.Checked.TheVariants.{Good}
 use Rattle.checking.specs.WellFormed.{place_among, WellFormed}
-use Rattle.checking.specs.Surveyed.{checked}
+use Rattle.checking.specs.Surveyed.{checked, place_found}
 use Rattle.checking.proofs.Walked.{well_formed_checked}
-use Rattle.comparing.specs.declared.Compared.TheVariants as variants
+use Rattle.checking.proofs.Marks.{found_inside, found_nowhere}
+use Rattle.comparing.specs.declared.Standing.{Standing}
+use Rattle.comparing.specs.declared.Standing.TheVariants as variants
+use Rattle.comparing.specs.declared.Incomparable.{Incomparable}
 use Rattle.comparing.specs.Compare.{number_of, ordered, compared_at, compared_in, compared}
-use Rattle.comparing.proofs.Ordering.{ordered_same, ordered_number}
+use Rattle.comparing.proofs.Ordering.{ordered_same}
 use Rattle.comparisons.specs.Written.{IsTo}
 use Rattle.comparisons.specs.OwnReport.{IsMark, HasMark}
 use Rattle.comparisons.proofs.Written.{written_well_formed, written_found, written_absent}
@@ -63,6 +66,10 @@ answer_to {e = e} {a = a} is right =
 to_answer : {cut : List Event} {e : Mark} {p : ℕ} {a : Answer} → IsTo a e → Right cut p a → IsMark cut e p
 to_answer is right = rw (is.1, is.0) at right.numbered
 
+-- comparisons that are made answer the same just if the marks stand to each other the same
+made_same : (s t : Standing) → (◌≡◌ {A = Result Standing Incomparable} (Ok s) (Ok t)) ↔ (s ≡ t)
+made_same s t = (λ same. cc, λ same. ap Ok same)
+
 module _ {n : ℕ} {cut : List Event} (lawful : Lawful n cut) where
   told : List Answer
   told = answers n full cut
@@ -77,7 +84,7 @@ module _ {n : ℕ} {cut : List Event} (lawful : Lawful n cut) where
   unfolding told
   own_well_formed = rw own_bytes (written_well_formed (own_writable lawful))
 
-  own_checked : checked (report_of n cut) ≡ Good (length told)
+  own_checked : checked (report_of n cut) ≡ Ok (length told)
   unfolding told
   own_checked = well_formed_checked (report_of n cut) _ own_well_formed
 
@@ -110,39 +117,40 @@ module _ {n : ℕ} {cut : List Event} (lawful : Lawful n cut) where
   -- ---- two marks
 
   -- the answer is that at the places of their groups
-  compared_there : (e f : Mark) → compared (report_of n cut) e f ≡ compared_at (report_of n cut) (place_of e) (place_of f)
+  compared_there : (e f : Mark) → compared (report_of n cut) e f
+      ≡ compared_at (report_of n cut) (place_found (report_of n cut) (length told) e) (place_found (report_of n cut) (length told) f)
   unfolding compared_in
   compared_there e f = rw own_checked
 
   -- for two marks of the log the stamps are compared
   own_ordered : (e f : Mark) {p q : ℕ} → IsMark cut e p → IsMark cut f q
-      → (a b : Answer) × Right cut p a × Right cut q b × (compared (report_of n cut) e f ≡ ordered a.stamp b.stamp)
+      → (a b : Answer) × Right cut p a × Right cut q b × (compared (report_of n cut) e f ≡ Ok (ordered a.stamp b.stamp))
   unfolding compared_at
   own_ordered e f {p} {q} is there = go (own_found e) (own_found f)
     where
-      go : Found e → Found f → (a b : Answer) × Right cut p a × Right cut q b × (compared (report_of n cut) e f ≡ ordered a.stamp b.stamp)
+      go : Found e → Found f → (a b : Answer) × Right cut p a × Right cut q b × (compared (report_of n cut) e f ≡ Ok (ordered a.stamp b.stamp))
       go (found {a = a} first right inside stamp) (found {a = b} second right' inside' stamp') = (
         a,
         b,
         rw (numbered_place first is) at right,
         rw (numbered_place second there) at right',
-        compared_there e f ∙ rw (lt-leb _ _ inside, lt-leb _ _ inside') (ordered_same stamp stamp'),
+        compared_there e f ∙ rw (found_inside (report_of n cut) e (length told) inside, found_inside (report_of n cut) f (length told) inside') (ap Ok (ordered_same stamp stamp')),
       )
       go (unfound none away) g = absurd (none (p, is))
       go (found first right inside stamp) (unfound none away) = absurd (none (q, there))
 
   module _ {e f : Mark} {p q : ℕ} (is : IsMark cut e p) (there : IsMark cut f q) where
     -- before, just if the first is before the second
-    pub own_before : (compared (report_of n cut) e f ≡ variants.Before) ↔ Before cut p q
-    own_before = let (a, b, first, second, told) = own_ordered e f is there in rw told (ordered_before lawful first second)
+    pub own_before : (compared (report_of n cut) e f ≡ Ok variants.Before) ↔ Before cut p q
+    own_before = let (a, b, first, second, told) = own_ordered e f is there in rw told (Iff.trans (made_same _ _) (ordered_before lawful first second))
 
     -- after, just if the second is before the first
-    pub own_after : (compared (report_of n cut) e f ≡ variants.After) ↔ Before cut q p
-    own_after = let (a, b, first, second, told) = own_ordered e f is there in rw told (ordered_after lawful first second)
+    pub own_after : (compared (report_of n cut) e f ≡ Ok variants.After) ↔ Before cut q p
+    own_after = let (a, b, first, second, told) = own_ordered e f is there in rw told (Iff.trans (made_same _ _) (ordered_after lawful first second))
 
     -- apart, just if neither is before the other
-    pub own_apart : (compared (report_of n cut) e f ≡ variants.Apart) ↔ ((¬ Before cut p q) × (¬ Before cut q p))
-    own_apart = let (a, b, first, second, told) = own_ordered e f is there in rw told (ordered_apart lawful first second)
+    pub own_apart : (compared (report_of n cut) e f ≡ Ok variants.Apart) ↔ ((¬ Before cut p q) × (¬ Before cut q p))
+    own_apart = let (a, b, first, second, told) = own_ordered e f is there in rw told (Iff.trans (made_same _ _) (ordered_apart lawful first second))
 
   -- ---- marks that the log has, or has not
 
@@ -157,12 +165,12 @@ module _ {n : ℕ} {cut : List Event} (lawful : Lawful n cut) where
   outcome e f = go (own_found e) (own_found f)
     where
       go : Found e → Found f → Outcome e f (number_of (compared (report_of n cut) e f))
-      go (unfound none away) g = no_first none (rw (compared_there e f, le-leb (length (report_of n cut)) (place_of e) (omega arith)))
+      go (unfound none away) g = no_first none (rw (compared_there e f, found_nowhere (report_of n cut) e (length told) (omega arith)))
       go (found {p = p} first right inside stamp) (unfound none away) =
-          no_second (p, first) none (rw (compared_there e f, lt-leb _ _ inside, le-leb (length (report_of n cut)) (place_of f) (omega arith)))
+          no_second (p, first) none (rw (compared_there e f, found_inside (report_of n cut) e (length told) inside, found_nowhere (report_of n cut) f (length told) (omega arith)))
       go (found {p = p} first right inside stamp) (found {p = q} second right' inside' stamp') =
           let (a, b, r, s, told) = own_ordered e f first second in
-          both_there (p, first) (q, second) (ap number_of told ∙ ordered_number a.stamp b.stamp)
+          both_there (p, first) (q, second) (ap number_of told)
 
   module _ (e f : Mark) where
     -- the report is never refused

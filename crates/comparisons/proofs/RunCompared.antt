@@ -6,6 +6,7 @@ use mathlib.Core.Logic.{◌↔◌}
 use mathlib.Core.List.{List}
 use Prim.Native.Nat.{ℕ}
 use lib.ListN.{length}
+use Rattle.std.specs.Prelude.{Ok}
 use Rattle.order.specs.Order.{Event, Before}
 use Rattle.verdict.specs.Verdict.{accepted}
 use Rattle.verdict.specs.Lawful.{Lawful}
@@ -26,7 +27,7 @@ use Rattle.demands.proofs.ListedMarks.{answers_right}
 use Rattle.demands.proofs.Arrows.{report_only}
 use Rattle.shape.specs.declared.Mark.{Mark}
 use Rattle.checking.specs.WellFormed.{WellFormed}
-use Rattle.comparing.specs.declared.Compared.TheVariants as variants
+use Rattle.comparing.specs.declared.Standing.TheVariants as variants
 use Rattle.comparing.specs.Compare.{number_of, compared}
 use Rattle.comparisons.specs.OwnReport.{IsMark, HasMark, own_report}
 use Rattle.comparisons.proofs.OwnReport as own
@@ -59,15 +60,15 @@ module _ {mode : Mode} {log counts words mail report counts' words' mail' report
 
   -- For two marks of the log, at places p and q: before, just if the first is before the second in Lamport's order;
   module _ {e f : Mark} {p q : ℕ} (first : IsMark cut e p) (second : IsMark cut f q) where
-    pub run_before : (compared (own_report r report') e f ≡ variants.Before) ↔ Before cut p q
+    pub run_before : (compared (own_report r report') e f ≡ Ok variants.Before) ↔ Before cut p q
     run_before = rw left (own.own_before lawful first second)
 
     -- after, just if the second is before the first;
-    pub run_after : (compared (own_report r report') e f ≡ variants.After) ↔ Before cut q p
+    pub run_after : (compared (own_report r report') e f ≡ Ok variants.After) ↔ Before cut q p
     run_after = rw left (own.own_after lawful first second)
 
     -- apart, just if neither is before the other.
-    pub run_apart : (compared (own_report r report') e f ≡ variants.Apart) ↔ ((¬ Before cut p q) × (¬ Before cut q p))
+    pub run_apart : (compared (own_report r report') e f ≡ Ok variants.Apart) ↔ ((¬ Before cut p q) × (¬ Before cut q p))
     run_apart = rw left (own.own_apart lawful first second)
 
   -- A first mark that the log has not is 15, and no other is;

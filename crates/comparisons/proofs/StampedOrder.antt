@@ -12,7 +12,7 @@ use Rattle.order.proofs.Marks.{stamp_unique}
 use Rattle.order.proofs.Stamps.{stamps_rise, stamp_rises, stamp_within}
 use Rattle.verdict.specs.Lawful.{Lawful}
 use Rattle.machine.specs.Answer.{Answer, Right}
-use Rattle.comparing.specs.declared.Compared.TheVariants as variants
+use Rattle.comparing.specs.declared.Standing.TheVariants as variants
 use Rattle.comparing.specs.Compare.{ordered}
 use Rattle.comparing.specs.Table.{Under}
 use Rattle.comparing.proofs.Ordering.{ordered_under, ordered_over, ordered_neither}

@@ -1,13 +1,11 @@
 -- What the theorems about a run speak of, beyond its promise: 01's table of refusals, the marks of a log and its report, two runs
 -- that agree, what lies in the mail, and a program.
 -- Assumes nothing.
-use Rattle.std.specs.Prelude.{◌≡◌, Bool, cond, ℕ, suc, ◌+◌, ◌*◌, ◌^◌, ◌<◌, ◌≤◌, length, get_or, take}
+use Rattle.std.specs.Prelude.{◌≡◌, Bool, cond, ℕ, suc, ◌+◌, ◌*◌, ◌^◌, ◌<◌, ◌≤◌, length, get_or, take, Some, Ok}
 use mathlib.Core.List.{List, [], ◌∷◌, ◌++◌, Memᴰ}
 use Rattle.order.specs.Order.{Event, idle, mark, send, receipt}
 use Rattle.logs.specs.declared.Cursor.{Cursor}
 use Rattle.logs.specs.declared.Record.{Record}
-use Rattle.logs.specs.declared.Step.TheVariants.{Read}
-use Rattle.logs.specs.declared.Opening.TheVariants.{Nodes}
 use Rattle.logs.specs.Record.{record_at, opening_of}
 use Rattle.verdict.specs.Verdict.{accepted}
 use Rattle.verdict.specs.Table.{Refused, Row}
@@ -163,7 +161,7 @@ pub record Posted (mode : Mode) (n : ℕ) (cut : List Event) (mail : List ℕ) (
 
 -- the record of the log's first event ends just before place q
 pub data FirstEnds (log : List ℕ) : ℕ → Type 0 where
-  first_ends : {n : ℕ} {c d : Cursor} {r : Record} → opening_of log ≡ Nodes n c → record_at log c.at ≡ Read r d → FirstEnds log d.at
+  first_ends : {n : ℕ} {c d : Cursor} {r : Record} → opening_of log ≡ Ok (n, c) → record_at log c.at ≡ Ok (Some (r, d)) → FirstEnds log d.at
 
 -- what a run is given, and what it leaves
 pub record Input : Type 0 where

@@ -13,7 +13,7 @@ use Rattle.bits.proofs.Laws.{digit_small}
 use Rattle.machine.specs.Machine.{State}
 use Rattle.machine.specs.Answer.{Answer, flagged, answer}
 use Rattle.groups.specs.Groups.{stamp_record, stamp_records, cause_records, group_of}
-use Rattle.groups.proofs.Records.{cause_at, causes_length}
+use Rattle.groups.proofs.Records.{stamp_some, stamp_none, stamps_grow, cause_at, causes_length}
 
 -- one pair or none
 cond_length : (b : Bool) (x : ℕ × ℕ) → length (cond b (x ∷ []) []) ≡ cond b 1 0
@@ -34,6 +34,13 @@ unfolding stamp_records
 stamps_size zero stamp = omega arith
 stamps_size (suc n) stamp =
     rw (length-append (stamp_records n stamp) (stamp_record n (stamp n))) (omega (arith, stamps_size n stamp, stamp_size n (stamp n)))
+
+-- the next node's record adds its bytes
+pub stamps_longer : (stamp : ℕ → ℕ) (k : ℕ) → length (stamp_records (k + 1) stamp) ≡ length (stamp_records k stamp) + length (stamp_record k (stamp k))
+stamps_longer stamp k = rw ((stamps_grow stamp).more k) (length-append (stamp_records k stamp) (stamp_record k (stamp k)))
+
+-- what the counting of a stamp's bytes goes by
+pub ruleset stamp_sizes = (stamps_longer, stamp_some, stamp_none, stamps_size)
 
 -- ---- the direct predecessors
 

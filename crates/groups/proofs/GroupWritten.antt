@@ -1,6 +1,6 @@
 -- A group as the code makes it: its size from the counted flags, and its bytes from the three runs that are written side by side.
 -- Assumes nothing.
-use mathlib.Core.Path.{◌≡◌, sym, ap, ◌∙◌}
+use mathlib.Core.Path.{◌≡◌, sym, ◌∙◌}
 use mathlib.Core.Bool.{false}
 use mathlib.Core.List.{List, [], ◌∷◌, ◌++◌}
 use Prim.Native.Nat.{ℕ, ◌+◌, ◌*◌, ◌≤◌, ◌<◌}
@@ -26,12 +26,11 @@ written {bytes} {room} e h laid =
 
 module _ (i : ℕ) (row : List ℕ) (flags : ℕ) (few : length row ≤ 32) (clear : (k : ℕ) → length row ≤ k → bit flags k ≡ false) where
   -- the size as the code counts it
-  pub size_counted : length (group_of (length row) (row_answer i row flags))
-      ≡ 5 + length (stamp_records (length row) (stamp_of i row)) + 4 * set_below 32 flags
+  pub size_counted : {size causes : ℕ} → size ≡ length (stamp_records (length row) (stamp_of i row)) → causes ≡ set_below 32 flags
+      → 5 + size + 4 * causes ≡ length (group_of (length row) (row_answer i row flags))
   unfolding row_answer
-  size_counted =
-      group_size (length row) (row_answer i row flags)
-      ∙ ap (λ (m : ℕ). 5 + length (stamp_records (length row) (stamp_of i row)) + 4 * m) (causes_set row flags few clear)
+  size_counted sized counted =
+      omega (arith, sized, counted, group_size (length row) (row_answer i row flags), causes_set row flags few clear)
 
   -- the head, the stamp and the predecessors, one behind the other
   pub group_written : {number causes size stamps at past : ℕ} {room room₁ room₂ room₃ : List ℕ}

@@ -1,12 +1,12 @@
--- Bytes laid over a room: none change nothing, a store lays one, and two runs side by side are laid as one.
+-- Bytes laid over a room: none change nothing, and two runs side by side are laid as one.
 -- Assumes nothing.
-use mathlib.Core.Path.{◌≡◌, refl, sym, ap, ◌∙◌}
-use mathlib.Core.List.{List, [], ◌∷◌, ◌++◌, append_assoc}
-use Prim.Native.Nat.{ℕ, suc, ◌+◌, ◌≤◌, ◌<◌}
+use mathlib.Core.Path.{◌≡◌, sym, ap, ◌∙◌}
+use mathlib.Core.List.{List, [], ◌++◌, append_assoc}
+use Prim.Native.Nat.{ℕ, ◌+◌, ◌≤◌}
 use native.Mathlib.Nat.{le_refl}
 use native.Mathlib.Omega.{arith}
-use lib.ListN.{length, take, drop, set, length-append}
-use lib.Seq.{length-take-le, take_at, drop-append-add, drop-drop, sets-eq, paste-zero, take-length, length-paste}
+use lib.ListN.{length, take, drop, length-append}
+use lib.Seq.{length-take-le, take_at, drop-append-add, drop-drop, paste-zero, take-length, length-paste}
 use Rattle.groups.specs.Groups.{laid, Laid}
 
 -- the second run starts where the first ends
@@ -32,26 +32,7 @@ laid_length at xs room h =
     ap (λ (ys : List ℕ). length (take at room ++ ys ++ drop (at + length xs) room)) (sym (take-length xs))
     ∙ length-paste room at xs (length xs) h (le_refl _)
 
--- ---- stores
-
--- one store
-pub store_laid : (at a : ℕ) (room : List ℕ) → at + 1 ≤ length room → set room at a ≡ laid at (a ∷ []) room
-store_laid at a room = sets-eq (a ∷ []) room at
-
--- four stores, one after another
-pub stores_laid : (at a b c d : ℕ) (room : List ℕ) → at + 4 ≤ length room
-    → set (set (set (set room at a) (at + 1) b) (at + 2) c) (at + 3) d ≡ laid at (a ∷ b ∷ c ∷ d ∷ []) room
-stores_laid at a b c d room h =
-    let second : at + 1 ≡ suc at = omega arith in
-    let third : at + 2 ≡ suc (suc at) = omega arith in
-    let fourth : at + 3 ≡ suc (suc (suc at)) = omega arith in
-    rw (second, third, fourth) (sets-eq (a ∷ b ∷ c ∷ d ∷ []) room at h)
-
 -- ---- what is laid
-
--- one byte stored is one byte laid
-pub one_laid : (room : List ℕ) (at v : ℕ) → at < length room → Laid at (v ∷ []) room (set room at v) (at + 1)
-one_laid room at v h = record { past_is = refl; within = omega arith; room_is = store_laid at v room (omega arith) }
 
 -- no bytes lie anywhere
 pub none_laid : (room : List ℕ) (at : ℕ) → at ≤ length room → Laid at [] room room at

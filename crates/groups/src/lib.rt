@@ -8,8 +8,57 @@ ghost use Rattle.groups.specs.Groups.{four_bytes, stamp_record, stamp_records, c
 
 use logs::{MarkNumber, Node};
 
+// A mark's stamp: its node, and the node's row before the mark. The mark itself is counted.
+#[derive(Clone, Copy)]
+struct Stamp<'a> {
+    row: &'a [u16],
+    own: usize,
+    ghost few: { length row.now ≤ 32 },
+    ghost countable: { get_or row.now own 0 < 65535 },
+}
+
+impl<'a> Stamp<'a> {
+    // The count at node k.
+    #[tactic(auto, using(machine::proofs::Small::put_same, machine::proofs::Small::put_other))]
+    fn at(self, k: usize) -> u16
+        requires { k < length self.row.now }
+        ensures { result ≡ stamp_of self.entry.own self.entry.row.now k }
+    {
+        let count = self.row[k];
+        if k == self.own { count + 1 } else { count }
+    }
+
+    // How many bytes its records have.
+    #[tactic(auto, using(crate::proofs::GroupSizes::stamp_sizes), unfolding(crate::specs::Groups::stamp_records))]
+    fn size(self) -> usize
+        ensures { result ≡ length (stamp_records (length self.entry.row.now) (stamp_of self.entry.own self.entry.row.now)) }
+    {
+        let mut bytes = 0;
+        for k in 0..self.row.len() {
+            if self.at(k) > 0 {
+                bytes += 4;
+            }
+        }
+        bytes
+    }
+
+    // Writes its records, node after node. The place past them comes back, as from each of the writers below.
+    fn write(self, from: usize, room: &mut [u8]) -> usize
+        requires { from + length (stamp_records (length self.row.now) (stamp_of self.own self.row.now)) ≤ length room.old }
+        ensures { Laid from (stamp_records (length self.entry.row.now) (stamp_of self.entry.own self.entry.row.now))
+            room.old room.new result }
+    {
+        let mut at = from;
+        for k in 0..self.row.len() {
+            at = stamp_record(Node(k as u8), self.at(k), at, room);
+        }
+        at
+    }
+}
+
 // Writes the group of a mark at the node to the front of a room that has space for it, from the node's row and its flags
 // before the mark. How many bytes the group has comes back in any case.
+#[tactic(auto, using(crate::proofs::GroupSizes::stamps_size, crate::proofs::GroupSizes::set_size))]
 pub fn group(node: Node, row: &[u16], flags: u32, room: &mut [u8]) -> usize
     requires node_in_bounds { (node.0 < length row.now) × (length row.now ≤ 32) × (get_or row.now node.0 0 < 65535) }
     requires flags_bound { (k : ℕ) → length row.now ≤ k → bit flags k ≡ false }
@@ -17,57 +66,25 @@ pub fn group(node: Node, row: &[u16], flags: u32, room: &mut [u8]) -> usize
         room.old room.new result }
 {
     let own = node.0 as usize;
+    let stamp = Stamp { row, own };
     let causes = bits::count(flags);
-    let bytes = 5 + stamp_bytes(row, own) + 4 * causes as usize;
+    let bytes = 5 + stamp.size() + 4 * causes as usize;
     if room.len() < bytes {
         return bytes;
     }
-    let number = MarkNumber(stamp_at(row, own, own));
-    let stamps = head(node, number, causes as u8, room);
-    let at = write_stamps(row, own, stamps, room);
+    let stamps = head(node, MarkNumber(stamp.at(own)), causes as u8, room);
+    let at = stamp.write(stamps, room);
     write_causes(row, flags, at, room);
     bytes
 }
 
-// A mark's stamp at node k, from its node's row before the mark: the mark itself is counted.
-fn stamp_at(row: &[u16], own: usize, k: usize) -> u16
-    requires { (length row.now ≤ 32) × (k < length row.now) × (get_or row.now own 0 < 65535) }
-    ensures { result ≡ stamp_of own row.now k }
-{
-    let count = row[k];
-    if own == k {
-        return count + 1;
-    }
-    count
-}
-
-// How many bytes the records of a mark's stamp have.
-fn stamp_bytes(row: &[u16], own: usize) -> usize
-    requires { (length row.now ≤ 32) × (get_or row.now own 0 < 65535) }
-    ensures { result ≡ length (stamp_records (length row.now) (stamp_of own row.now)) }
-{
-    let mut bytes: usize = 0;
-    let mut k: usize = 0;
-    while k < row.len() {
-        if stamp_at(row, own, k) > 0 {
-            bytes += 4;
-        }
-        k += 1;
-    }
-    bytes
-}
-
-// Writes a record of four bytes. The place past it comes back, as from each of the writers below.
+// Writes a record of four bytes.
 fn four_bytes(kind: u8, node: Node, number: u16, at: usize, room: &mut [u8]) -> usize
     requires { at + 4 ≤ length room.old }
     ensures { Laid at (four_bytes kind node.0 number) room.old room.new result }
 {
-    let low = (number % 256) as u8;
-    let high = (number / 256) as u8;
-    room[at] = kind;
-    room[at + 1] = node.0;
-    room[at + 2] = low;
-    room[at + 3] = high;
+    let [low, high] = number.to_le_bytes();
+    room[at..at + 4].copy_from_slice(&[kind, node.0, low, high]);
     at + 4
 }
 
@@ -83,43 +100,30 @@ fn head(node: Node, number: MarkNumber, causes: u8, room: &mut [u8]) -> usize
 }
 
 // Writes the stamp at a node, unless it is zero.
+#[tactic(auto, using(crate::proofs::Records::stamp_some, crate::proofs::Records::stamp_none, crate::proofs::Laying::none_laid))]
 fn stamp_record(node: Node, count: u16, at: usize, room: &mut [u8]) -> usize
     requires { at + length (stamp_record node.0 count) ≤ length room.old }
     ensures { Laid at (stamp_record node.0 count) room.old room.new result }
 {
     if count > 0 {
-        return four_bytes(0x22, node, count, at, room);
+        four_bytes(0x22, node, count, at, room)
+    } else {
+        at
     }
-    at
 }
 
 // Writes a direct predecessor, if its flag is set.
+#[tactic(auto, using(crate::proofs::Laying::none_laid), unfolding(crate::specs::Groups::cause_records))]
 fn cause_record(node: Node, number: MarkNumber, flag: bool, at: usize, room: &mut [u8]) -> usize
     requires { at + cond flag 4 0 ≤ length room.old }
     ensures { Laid at (cause_records (cond flag ((node.0, number.0) ∷ []) []))
         room.old room.new result }
 {
     if flag {
-        return four_bytes(0x23, node, number.0, at, room);
+        four_bytes(0x23, node, number.0, at, room)
+    } else {
+        at
     }
-    at
-}
-
-// Writes a mark's stamp, node after node.
-fn write_stamps(row: &[u16], own: usize, from: usize, room: &mut [u8]) -> usize
-    requires row_len_bound { (length row.now ≤ 32) × (get_or row.now own 0 < 65535) }
-    requires row_in_bounds { from + length (stamp_records (length row.now) (stamp_of own row.now)) ≤ length room.old }
-    ensures { Laid from (stamp_records (length row.now) (stamp_of own row.now))
-        room.old room.new result }
-{
-    let mut at = from;
-    let mut k: usize = 0;
-    while k < row.len() {
-        let count = stamp_at(row, own, k);
-        at = stamp_record(Node(k as u8), count, at, room);
-        k += 1;
-    }
-    at
 }
 
 // Writes a mark's direct predecessors, node after node: those whose flag is set, each with its count.
@@ -132,12 +136,9 @@ fn write_causes(row: &[u16], flags: u32, from: usize, room: &mut [u8]) -> usize
         room.old room.new result }
 {
     let mut at = from;
-    let mut k: usize = 0;
-    while k < row.len() {
-        let count = row[k];
+    for (k, count) in row.iter().enumerate() {
         let flag = bits::test(flags, k as u32);
-        at = cause_record(Node(k as u8), MarkNumber(count), flag, at, room);
-        k += 1;
+        at = cause_record(Node(k as u8), MarkNumber(*count), flag, at, room);
     }
     at
 }

@@ -2,9 +2,6 @@
 // that its arguments name, one after the other, or standard input where there is none. Names are UTF-8.
 #![tactic(auto)]
 
-ghost use Rattle.std.specs.Prelude.{◌≤◌, length, IfOk};
-
-use logs::Opening;
 use passes::Tally;
 use report::Answer;
 use room::Mode;
@@ -12,34 +9,30 @@ use std::fs::File;
 use std::io::Read;
 use std::rt::Files;
 use std::{env, io};
-use text::Line;
 
-// Prints the first bytes of a line.
-fn print(rt: &impl Print, line: &[u8], size: usize) -> io::Result<()> {
-    let end = room::within(size, line.len());
-    rt.write_all(&line[..end])
-}
-
-// Prints the line of the mark at a place of the report. The place past its group comes back, or the report's end.
-fn print_mark(rt: &impl Print, report: &[u8], at: usize, nodes: usize) -> io::Result<usize> {
+// Prints the line of the mark at a place of the report, if a group stands there. The place past the group comes back.
+fn print_mark(
+    rt: &impl Print,
+    report: &[u8],
+    at: usize,
+    nodes: usize,
+) -> io::Result<Option<usize>> {
     let mut line = [0u8; 4096];
-    match text::mark_line(report, at, nodes, &mut line) {
-        Line::Written(size, next) => {
-            print(rt, &line, size)?;
-            Ok(next)
-        }
-        Line::End => Ok(report.len()),
-        Line::Bad => Ok(report.len()),
-    }
+    let Ok(Some(laid)) = text::mark_line(report, at, nodes, &mut line) else {
+        return Ok(None);
+    };
+    rt.write_all(&line[..laid.size.min(line.len())])?;
+    Ok(Some(laid.past))
 }
 
 // Prints the lines of a report. A group has some bytes, so as many turns as the report has bytes are enough.
 fn print_marks(rt: &impl Print, report: &[u8], nodes: usize) -> io::Result<()> {
-    let mut at: usize = 0;
-    let mut turns = report.len();
-    while turns > 0 && at < report.len() {
-        at = print_mark(rt, report, at, nodes)?;
-        turns -= 1;
+    let mut at = 0;
+    for _ in 0..report.len() {
+        let Some(past) = print_mark(rt, report, at, nodes)? else {
+            break;
+        };
+        at = past;
     }
     Ok(())
 }
@@ -54,23 +47,19 @@ fn print_totals(rt: &impl Print, tally: Tally) -> io::Result<()> {
         tally.carried,
         &mut line,
     );
-    print(rt, &line, size)
+    rt.write_all(&line[..size])
 }
 
 // Prints a refusal.
 fn print_refusal(rt: &impl Print, number: u8, place: usize) -> io::Result<()> {
     let mut line = [0u8; 4096];
     let size = closing::refusal(number, place, &mut line);
-    print(rt, &line, size)
+    rt.write_all(&line[..size])
 }
 
 // How many nodes a log names; none if it names none.
 fn node_count(log: &[u8]) -> usize {
-    match logs::open(log) {
-        Opening::Nodes(nodes, _) => nodes as usize,
-        Opening::Missing(_) => 0,
-        Opening::OutOfRange(_) => 0,
-    }
+    logs::open(log).map_or(0, |(nodes, _)| nodes as usize)
 }
 
 // Runs a log and prints what the report says, or the refusal.
@@ -88,36 +77,20 @@ fn print_log(rt: &impl Print, log: &[u8]) -> io::Result<()> {
         &mut report,
     );
     if let Answer::Accepted(_, tally) = answer {
-        let end = room::within(tally.bytes, 16384);
-        print_marks(rt, &report[..end], node_count(log))?;
+        print_marks(rt, &report[..tally.bytes.min(16384)], node_count(log))?;
         return print_totals(rt, tally);
     }
     print_refusal(rt, answer.number(), answer.place())
 }
 
-// Reads into a buffer until it is full or the input ends, and answers how many bytes it put at the front.
-fn read_full(input: &mut impl Read, buffer: &mut [u8]) -> io::Result<usize>
-    ensures { IfOk result (λ size. size ≤ length buffer.new) }
-{
-    let mut done: usize = 0;
-    while done < buffer.len() {
-        let size = input.read(&mut buffer[done..])?;
-        if size == 0 {
-            break;
-        }
-        done += size;
-    }
-    Ok(done)
-}
-
 // Reads a log, one byte more than the longest that can be accepted, and prints what a run makes of it.
 fn print_input(rt: &impl Print, input: &mut impl Read) -> io::Result<()> {
     let mut log = [0u8; 20483];
-    let size = read_full(input, &mut log)?;
+    let size = input::read_full(input, &mut log)?;
     if size > 20482 {
         let mut line = [0u8; 4096];
-        let end = closing::too_long(&mut line);
-        return print(rt, &line, end);
+        let size = closing::too_long(&mut line);
+        return rt.write_all(&line[..size]);
     }
     print_log(rt, &log[..size])
 }

@@ -1,3 +1,2 @@
 pub mod OneResult
 pub mod Sizes
-mod Telling

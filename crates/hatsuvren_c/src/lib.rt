@@ -2,14 +2,13 @@
 // argument is a number, or a place in memory with its length, and every answer is numbers (include/hatsuvren.h).
 #![tactic(auto)]
 
-ghost use Rattle.std.specs.Prelude.{◌≡◌, length};
+ghost use Rattle.std.specs.Prelude.{◌≡◌};
 ghost use Rattle.comparing.specs.Compare.{compared};
-ghost use Rattle.passes.specs.Report.{bytes_alone};
-ghost use Rattle.hatsuvren_c.specs.Calls.{asked, Called, RunTold, told_of, mark, ComparedTold};
+ghost use Rattle.hatsuvren_c.specs.Calls.{asked, Called, told_of, mark, ComparedTold};
 ghost use Rattle.naming.specs.Names.{Named, name_of};
 ghost use Rattle.hatsuvren_c.specs.Sizes.{counts_length, words_length, mail_length, rooms_bytes};
 
-use comparing::Compared;
+use comparing::{Incomparable, Standing};
 use logs::{MarkNumber, Node};
 use passes::Tally;
 use room::Mode;
@@ -31,41 +30,22 @@ pub extern "C" fn hatsuvren_run(
         counts.old words.old mail.old report.old
         counts.new words.new mail.new report.new result told.new }
 {
-    match mode {
-        0 => run_in(Mode::Full, log, counts, words, mail, report, told),
-        1 => run_in(Mode::Short, log, counts, words, mail, report, told),
-        _ => tell(255, 0, nothing(), told),
-    }
-}
-
-// Runs a log in a known mode.
-fn run_in(
-    mode: Mode,
-    log: &[u8],
-    counts: &mut [u16],
-    words: &mut [u32],
-    mail: &mut [u16],
-    report: &mut [u8],
-    told: &mut [usize; 6],
-) -> u8
-    ensures { RunTold mode log.now
-        counts.old words.old mail.old report.old
-        counts.new words.new mail.new report.new result told.new }
-{
+    let Some(mode) = mode_of(mode) else {
+        return tell(255, 0, Tally::default(), told);
+    };
     let answer = report::run(mode, log, counts, words, mail, report);
     tell(answer.number(), answer.place(), answer.totals(), told)
 }
 
-// No totals at all.
-fn nothing() -> Tally
-    ensures { result ≡ bytes_alone 0 }
+// The mode that a number asks for, if any.
+fn mode_of(number: u32) -> Option<Mode>
+    ensures { result ≡ asked number }
 {
-    Tally {
-        events: 0,
-        marks: 0,
-        sends: 0,
-        carried: 0,
-        bytes: 0,
+    // kept: numbers, since a caller from C hands over one
+    match number {
+        0 => Some(Mode::Full),
+        1 => Some(Mode::Short),
+        _ => None,
     }
 }
 
@@ -73,21 +53,15 @@ fn nothing() -> Tally
 fn tell(number: u8, place: usize, tally: Tally, told: &mut [usize; 6]) -> u8
     ensures { (result ≡ number) × (told.new ≡ told_of place tally) }
 {
-    store(place, tally, told);
+    *told = [
+        place,
+        tally.events,
+        tally.marks,
+        tally.sends,
+        tally.carried,
+        tally.bytes,
+    ];
     number
-}
-
-// Stores the place and the totals in six elements.
-fn store(place: usize, tally: Tally, told: &mut [usize])
-    requires { length told.old ≡ 6 }
-    ensures { told.new ≡ told_of place tally }
-{
-    told[0] = place;
-    told[1] = tally.events;
-    told[2] = tally.marks;
-    told[3] = tally.sends;
-    told[4] = tally.carried;
-    told[5] = tally.bytes;
 }
 
 // Compares two marks of a report and returns 01's number: 0 with the order (1: before, 2: after, 3: apart), or a refusal with
@@ -114,20 +88,14 @@ pub extern "C" fn hatsuvren_compare(
         node: Node(second_node),
         number: MarkNumber(second_number),
     };
-    match comparing::compare(report, first, second) {
-        Compared::Before => answer(0, 1, 0, order, place),
-        Compared::After => answer(0, 2, 0, order, place),
-        Compared::Apart => answer(0, 3, 0, order, place),
-        Compared::NotWellFormed(bad) => answer(14, 0, bad, order, place),
-        Compared::FirstAbsent => answer(15, 0, 0, order, place),
-        Compared::SecondAbsent => answer(16, 0, 0, order, place),
-    }
-}
-
-// Tells the order and the place, and returns the number.
-fn answer(number: u8, found: u8, at: usize, order: &mut u8, place: &mut usize) -> u8
-    ensures { (result ≡ number) × (order.new ≡ found) × (place.new ≡ at) }
-{
+    let (number, found, at) = match comparing::compare(report, first, second) {
+        Ok(Standing::Before) => (0, 1, 0),
+        Ok(Standing::After) => (0, 2, 0),
+        Ok(Standing::Apart) => (0, 3, 0),
+        Err(Incomparable::NotWellFormed(bad)) => (14, 0, bad),
+        Err(Incomparable::FirstAbsent) => (15, 0, 0),
+        Err(Incomparable::SecondAbsent) => (16, 0, 0),
+    };
     *order = found;
     *place = at;
     number

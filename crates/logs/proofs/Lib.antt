@@ -1,3 +1,4 @@
 pub mod Reader
 pub mod Stands
 pub mod FirstRecord
+pub mod Reasons

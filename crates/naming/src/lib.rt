@@ -1,7 +1,7 @@
 // The name of each number that is answered, as text for C.
 #![tactic(auto)]
 
-ghost use Rattle.std.specs.Prelude.{◌≤◌};
+ghost use Rattle.std.specs.Prelude.{◌≡◌};
 ghost use Rattle.naming.specs.Names.{Named, name_of};
 
 // Lays the name of a number over the front of text, with a zero behind it, if text has space for both, and answers its length
@@ -9,36 +9,35 @@ ghost use Rattle.naming.specs.Names.{Named, name_of};
 pub fn name(number: u8, text: &mut [u8]) -> usize
     ensures { Named (name_of number) text.old text.new result }
 {
-    match number {
-        0 => lay(b"accepted", text),
-        1 => lay(b"work room too small", text),
-        2 => lay(b"no whole 0x10 record at the start", text),
-        3 => lay(b"node count 0 or above 32", text),
-        4 => lay(b"unknown kind, or a later 0x10", text),
-        5 => lay(b"record cut short", text),
-        6 => lay(b"node or destination not below the node count", text),
-        7 => lay(b"destination equals sender", text),
-        8 => lay(b"message number in flight already", text),
-        9 => lay(b"128 messages in flight already", text),
-        10 => lay(b"receipt of a number not in flight", text),
-        11 => lay(b"message in flight to another node", text),
-        12 => lay(b"a 4,097th event", text),
-        13 => lay(b"report room too small", text),
-        _ => other(number, text),
-    }
+    lay(letters(number), text)
 }
 
-// The same for a number that no run answers in a known mode.
-fn other(number: u8, text: &mut [u8]) -> usize
-    requires { 14 ≤ number }
-    ensures { Named (name_of number) text.old text.new result }
+// The letters of a number's name.
+// kept: the number is the one that C is told, so it is matched as a number.
+#[tactic(auto, unfolding(crate::specs::Names::name_of))]
+fn letters(number: u8) -> &'static [u8]
+    ensures { result.now ≡ name_of number }
 {
     match number {
-        14 => lay(b"report not well formed", text),
-        15 => lay(b"first mark absent", text),
-        16 => lay(b"second mark absent", text),
-        255 => lay(b"unknown mode", text),
-        _ => lay(b"", text),
+        0 => b"accepted",
+        1 => b"work room too small",
+        2 => b"no whole 0x10 record at the start",
+        3 => b"node count 0 or above 32",
+        4 => b"unknown kind, or a later 0x10",
+        5 => b"record cut short",
+        6 => b"node or destination not below the node count",
+        7 => b"destination equals sender",
+        8 => b"message number in flight already",
+        9 => b"128 messages in flight already",
+        10 => b"receipt of a number not in flight",
+        11 => b"message in flight to another node",
+        12 => b"a 4,097th event",
+        13 => b"report room too small",
+        14 => b"report not well formed",
+        15 => b"first mark absent",
+        16 => b"second mark absent",
+        255 => b"unknown mode",
+        _ => b"",
     }
 }
 

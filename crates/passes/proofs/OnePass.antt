@@ -11,38 +11,40 @@ use Rattle.order.specs.Order.{Event}
 use Rattle.logs.specs.Record.{record_at}
 use Rattle.logs.specs.declared.Record.{Record}
 use Rattle.logs.specs.declared.Cursor.{Cursor}
-use Rattle.logs.specs.declared.Step.TheVariants.{Read}
+use Rattle.logs.specs.declared.Refusal.{Refusal}
+use Rattle.logs.specs.Record.{number_of}
+use Rattle.logs.proofs.FirstRecord.{opened_one}
+use Rattle.logs.proofs.Stands.{read_one}
+use Rattle.logs.proofs.Reasons.{number_same, refusal_same}
+use Rattle.std.specs.Prelude.{Some, Result, Ok, Err}
 use Rattle.verdict.specs.Table.{Reached, reached_first, reached_next, Passes, row_accepted, row_refused}
 use Rattle.verdict.proofs.Rules.{breaks_first, passes_first}
 use Rattle.verdict.proofs.Verdict.{row_unique, not_accepted}
 use Rattle.room.specs.declared.Mode.{Mode}
 use Rattle.room.proofs.OneRoom.{one_room}
 use Rattle.passes.specs.declared.Tally.{Tally}
-use Rattle.passes.specs.declared.Passed.{Passed}
-use Rattle.passes.specs.declared.Passed.TheVariants.{Whole}
 use Rattle.passes.specs.Pass.{Stands, Halts, halts_4, halts_5, halts_rule, Passing, whole, halted}
 use Rattle.passes.proofs.Turns.{halts_refused}
 
 -- after so many events one place and one cut are reached
 reached_one : {log : List ℕ} {n p p₂ : ℕ} {cut cut₂ : List Event} → Reached log n p cut → Reached log n p₂ cut₂ → length cut ≡ length cut₂
     → (p ≡ p₂) × (cut ≡ cut₂)
-reached_one {n = n} (reached_first {c = c} e) (reached_first {c = d} f) h =
-    let same : c ≡ d = cc in
+reached_one {log} (reached_first {c = c} e) (reached_first {c = d} f) h =
+    let same : c ≡ d = (opened_one log e f).1 in
     (ap (λ (c : Cursor). c.at) same, refl)
 reached_one (reached_first e) (reached_next b f k) h = absurd (omega arith)
 reached_one (reached_next b e k) (reached_first f) h = absurd (omega arith)
-reached_one {log} (reached_next {r = r} {c = c} b e k) (reached_next {r = s} {c = d} b₂ f k₂) h =
+reached_one {log} (reached_next {r = r} {c = c} b e k) (reached_next {p = p₂} {r = s} {c = d} b₂ f k₂) h =
     let before = reached_one b b₂ (omega arith) in
-    let place : c ≡ d = cc in
-    let event : r ≡ s = cc in
-    (ap (λ (c : Cursor). c.at) place, rw (event, before.1))
+    let one = read_one log p₂ (rw before.0 at e) f in
+    (ap (λ (c : Cursor). c.at) one.1, rw (one.0, before.1))
 
 -- a record that is refused does not pass
-halts_last : {log : List ℕ} {n p x q : ℕ} {cut : List Event} {r : Record} {c : Cursor} → Halts log n p cut x q → record_at log p ≡ Read r c → ¬ Passes n cut r
+halts_last : {log : List ℕ} {n p x q : ℕ} {cut : List Event} {r : Record} {c : Cursor} → Halts log n p cut x q → record_at log p ≡ Ok (Some (r, c)) → ¬ Passes n cut r
 halts_last {r = r} {c} (halts_4 e) f k = absurd (false≢true (cc))
 halts_last {r = r} {c} (halts_5 e) f k = absurd (false≢true (cc))
-halts_last {n = n} {p} {cut = cut} {r} {c} (halts_rule {r = s} e b) f k =
-    let same : s ≡ r = cc in
+halts_last {log} {n} {p} {cut = cut} {r} {c} (halts_rule {r = s} e b) f k =
+    let same : s ≡ r = (read_one log p e f).0 in
     let first = rw same at (breaks_first n cut p b) in
     absurd (let clash = sym (passes_first n cut p r k) ∙ first in false≢true (cc))
 
@@ -68,20 +70,21 @@ module _ {mode : Mode} {log : List ℕ} {n : ℕ} {room : List ℕ} where
       let rooms = one_room a.noted.holds b.noted.holds in
       (a.noted.tallied ∙ sym b.noted.tallied, rooms.0, rooms.1, rooms.2, a.noted.shown ∙ sym b.noted.shown)
 
-  pub passing_unique : {counts words mail report counts₂ words₂ mail₂ report₂ : List ℕ} {r s : Passed}
+  pub passing_unique : {counts words mail report counts₂ words₂ mail₂ report₂ : List ℕ} {r s : Result Tally Refusal}
       → Passing mode log n room counts words mail report r → Passing mode log n room counts₂ words₂ mail₂ report₂ s
       → (r ≡ s) × (counts ≡ counts₂) × (words ≡ words₂) × (mail ≡ mail₂) × (report ≡ report₂)
   passing_unique (whole {cut = cut} a) (whole {cut = cut₂} b) =
       let one = row_unique log (row_accepted a.reached) (row_accepted b.reached) in
       let same : cut ≡ cut₂ = cc in
       let all = stands_one same a b in
-      (ap Whole all.0, all.1, all.2, all.3, all.4)
+      (ap Ok all.0, all.1, all.2, all.3, all.4)
   passing_unique (whole a) (halted b h) = not_accepted (row_unique log (row_refused (halts_refused b.reached h)) (row_accepted a.reached))
   passing_unique (halted a h) (whole b) = not_accepted (row_unique log (row_refused (halts_refused a.reached h)) (row_accepted b.reached))
-  passing_unique (halted {x = x} {q} a h) (halted {x = y} {q = p} b k) =
+  passing_unique (halted {f = f} a h) (halted {f = g} b k) =
       let one = row_unique log (row_refused (halts_refused a.reached h)) (row_refused (halts_refused b.reached k)) in
-      let number : x ≡ y = cc in
-      let place : q ≡ p = cc in
+      let number : number_of f.reason ≡ number_of g.reason = cc in
+      let reason : f.reason ≡ g.reason = number_same number in
+      let place : f.place ≡ g.place = cc in
       let size = reached_one a.reached b.reached (omega (arith, halts_most a.reached h b.reached, halts_most b.reached k a.reached)) in
       let all = stands_one size.1 a b in
-      (rw (number, place), all.1, all.2, all.3, all.4)
+      (ap Err (refusal_same reason place), all.1, all.2, all.3, all.4)

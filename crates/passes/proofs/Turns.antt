@@ -2,16 +2,19 @@
 -- on whether the record is admitted.
 -- Assumes nothing.
 use mathlib.Core.Path.{◌≡◌, sym, subst}
+use mathlib.Core.Logic.{◌⊎◌, inl, inr}
 use mathlib.Core.List.{List, ◌∷◌}
 use Prim.Native.Nat.{ℕ, ◌+◌, ◌^◌, ◌<◌, ◌≤◌}
+use Rattle.std.specs.Prelude.{Some, None, Ok, Err}
 use native.Mathlib.Omega.{arith}
 use lib.ListN.{length}
 use Rattle.order.specs.Order.{Event}
-use Rattle.logs.specs.Record.{record_at}
+use Rattle.logs.specs.Record.{refusal, number_of, record_at}
 use Rattle.logs.specs.declared.Record.{Record}
 use Rattle.logs.specs.declared.Cursor.{Cursor}
-use Rattle.logs.specs.declared.Step.TheVariants.{Read, End, Unknown, Short}
-use Rattle.logs.proofs.Stands.{read_forward, end_there}
+use Rattle.logs.specs.declared.Reason.TheVariants.{UnknownKind, CutShort}
+use Rattle.logs.specs.declared.Refusal.{Refusal}
+use Rattle.logs.proofs.Stands.{read_forward, end_there, refused_there}
 use Rattle.verdict.specs.Verdict.{event_of}
 use Rattle.verdict.specs.Table as table
 use Rattle.verdict.specs.Table.{Reached, reached_next, refused_4, refused_5, refused_rule}
@@ -22,10 +25,8 @@ use Rattle.room.specs.declared.Mode.{Mode}
 use Rattle.room.specs.Modes.{says}
 use Rattle.room.specs.Finding.{Mailed}
 use Rattle.protocol.specs.Admission.{Judges}
-use Rattle.protocol.specs.declared.Admission.TheVariants.{Admitted, Refused}
 use Rattle.protocol.proofs.Judged.{admitted_passes, refused_breaks}
 use Rattle.passes.specs.declared.Tally.{Tally}
-use Rattle.passes.specs.declared.Turn.TheVariants.{Next, Last, Stop}
 use Rattle.passes.specs.Report.{tally_of}
 use Rattle.passes.specs.Pass.{Noted, Stands, Halts, halts_4, halts_5, halts_rule, Turned, goes, ends, stops}
 
@@ -45,27 +46,28 @@ module _
   stands_events = rw here.noted.tallied (sym (total_events n (says mode) cut))
 
   -- no record is left
-  pub turn_ends : record_at log p ≡ End → Turned mode log n p cut room counts words mail report tally Last
+  pub turn_ends : record_at log p ≡ Ok None → Turned mode log n p cut room counts words mail report tally (Ok None)
   turn_ends e =
       let q : p ≡ length log = omega (arith, end_there log p e, reached_bound here.reached) in
       ends (subst (λ (p : ℕ). Stands mode log n p cut room counts words mail report tally) q here)
 
   -- the record there is no record, or is cut short
-  pub turn_unknown : {q : ℕ} → record_at log p ≡ Unknown q → Turned mode log n p cut room counts words mail report tally (Stop 4 q)
-  turn_unknown e = stops here (halts_4 e)
+  pub turn_unread : {f : Refusal} → record_at log p ≡ Err f → Turned mode log n p cut room counts words mail report tally (Err f)
+  turn_unread {f} e = go (refused_there log p e)
+    where
+      go : (f ≡ refusal UnknownKind p) ⊎ (f ≡ refusal CutShort p) → Turned mode log n p cut room counts words mail report tally (Err f)
+      go (inl h) = rw h (stops here (halts_4 (rw h at e)))
+      go (inr h) = rw h (stops here (halts_5 (rw h at e)))
 
-  pub turn_short : {q : ℕ} → record_at log p ≡ Short q → Turned mode log n p cut room counts words mail report tally (Stop 5 q)
-  turn_short e = stops here (halts_5 e)
-
-  module _ {r : Record} {c : Cursor} (e : record_at log p ≡ Read r c) where
+  module _ {r : Record} {c : Cursor} (e : record_at log p ≡ Ok (Some (r, c))) where
     -- it breaks a rule
-    pub turn_refused : {x q : ℕ} → Judges n cut p r (Refused x q) → Turned mode log n p cut room counts words mail report tally (Stop x q)
+    pub turn_refused : {f : Refusal} → Judges n cut p r (Err f) → Turned mode log n p cut room counts words mail report tally (Err f)
     turn_refused j = stops here (halts_rule e (refused_breaks j))
 
     -- it is applied, and then noted
-    pub turn_goes : {slot : ℕ} {sum : Tally} {counts' words' mail' report' : List ℕ} → Judges n cut p r (Admitted slot)
+    pub turn_goes : {slot : ℕ} {sum : Tally} {counts' words' mail' report' : List ℕ} → Judges n cut p r (Ok slot)
         → Noted mode n (event_of r ∷ cut) room counts' words' mail' report' sum
-        → Turned mode log n p cut room counts' words' mail' report' tally (Next c sum)
+        → Turned mode log n p cut room counts' words' mail' report' tally (Ok (Some (c, sum)))
     turn_goes j noted =
         goes (read_forward log p e).0 (record { reached = reached_next here.reached e (admitted_passes j).0; noted = noted })
 
@@ -73,20 +75,20 @@ module _
 
 module _
     {mode : Mode} {log : List ℕ} {n p : ℕ} {cut : List Event} {room counts words mail report : List ℕ} {tally : Tally} where
-  pub next_stands : {next : Cursor} {sum : Tally} → Turned mode log n p cut room counts words mail report tally (Next next sum)
+  pub next_stands : {next : Cursor} {sum : Tally} → Turned mode log n p cut room counts words mail report tally (Ok (Some (next, sum)))
       → (e : Event) × Stands mode log n next.at (e ∷ cut) room counts words mail report sum
   next_stands (goes {e = e} h there) = (e, there)
 
-  pub next_forward : {next : Cursor} {sum : Tally} → Turned mode log n p cut room counts words mail report tally (Next next sum)
+  pub next_forward : {next : Cursor} {sum : Tally} → Turned mode log n p cut room counts words mail report tally (Ok (Some (next, sum)))
       → (p < next.at) × (next.at ≤ length log)
   next_forward (goes h there) = (h, (reached_bound there.reached).1)
 
-  pub last_stands : Turned mode log n p cut room counts words mail report tally Last
+  pub last_stands : Turned mode log n p cut room counts words mail report tally (Ok None)
       → Stands mode log n (length log) cut room counts words mail report tally
   last_stands (ends there) = there
 
-  pub stop_halts : {x q : ℕ} → Turned mode log n p cut room counts words mail report tally (Stop x q)
-      → Stands mode log n p cut room counts words mail report tally × Halts log n p cut x q
+  pub stop_halts : {f : Refusal} → Turned mode log n p cut room counts words mail report tally (Err f)
+      → Stands mode log n p cut room counts words mail report tally × Halts log n p cut (number_of f.reason) f.place
   stop_halts (stops there h) = (there, h)
 
 -- a log that is refused at a place that was reached is refused

@@ -1,11 +1,12 @@
 -- One pass over a log, record by record: what stands at a place of it, and what a turn and the whole pass come to.
 -- Assumes nothing.
-use Rattle.std.specs.Prelude.{◌≡◌, List, [], ◌∷◌, ℕ, ◌+◌, ◌^◌, ◌<◌, length}
+use Rattle.std.specs.Prelude.{◌≡◌, List, [], ◌∷◌, ℕ, ◌+◌, ◌^◌, ◌<◌, length, Option, Some, None, Result, Ok, Err}
 use Rattle.order.specs.Order.{Event, idle, mark, send, receipt}
-use Rattle.logs.specs.Record.{record_at}
+use Rattle.logs.specs.Record.{refusal, number_of, record_at}
 use Rattle.logs.specs.declared.Record.{Record}
 use Rattle.logs.specs.declared.Cursor.{Cursor}
-use Rattle.logs.specs.declared.Step.TheVariants.{Read, Unknown, Short}
+use Rattle.logs.specs.declared.Reason.TheVariants.{UnknownKind, CutShort}
+use Rattle.logs.specs.declared.Refusal.{Refusal}
 use Rattle.verdict.specs.Table.{Reached, Breaks}
 use Rattle.room.specs.declared.Mode.{Mode}
 use Rattle.room.specs.Room.{barn, Holds}
@@ -13,10 +14,6 @@ use Rattle.machine.specs.Machine.{full}
 use Rattle.machine.specs.Answer.{answer}
 use Rattle.groups.specs.Groups.{group_of, written}
 use Rattle.passes.specs.declared.Tally.{Tally}
-use Rattle.passes.specs.declared.Turn.{Turn}
-use Rattle.passes.specs.declared.Turn.TheVariants.{Next, Last, Stop}
-use Rattle.passes.specs.declared.Passed.{Passed}
-use Rattle.passes.specs.declared.Passed.TheVariants.{Whole, Halted}
 use Rattle.passes.specs.Report.{report_of, tally_of}
 
 -- the group that an event adds to the report of a cut: a mark's
@@ -73,23 +70,23 @@ Small t = (t.events < 2 ^ 32) × (t.marks < 2 ^ 32) × (t.sends < 2 ^ 32) × (t.
 
 -- the log is refused by its record at place p, which follows the events of cut, with this number at this place
 pub data Halts (log : List ℕ) (n p : ℕ) (cut : List Event) : ℕ → ℕ → Type 0 where
-  halts_4 : {q : ℕ} → record_at log p ≡ Unknown q → Halts log n p cut 4 q
-  halts_5 : {q : ℕ} → record_at log p ≡ Short q → Halts log n p cut 5 q
-  halts_rule : {r : Record} {c : Cursor} {x q : ℕ} → record_at log p ≡ Read r c → Breaks n cut p r x q → Halts log n p cut x q
+  halts_4 : {q : ℕ} → record_at log p ≡ Err (refusal UnknownKind q) → Halts log n p cut 4 q
+  halts_5 : {q : ℕ} → record_at log p ≡ Err (refusal CutShort q) → Halts log n p cut 5 q
+  halts_rule : {r : Record} {c : Cursor} {x q : ℕ} → record_at log p ≡ Ok (Some (r, c)) → Breaks n cut p r x q → Halts log n p cut x q
 
 -- after a turn at place p: it stands one record further on; or p is the end of the log; or the log is refused there, and nothing
 -- has changed
-pub data Turned (mode : Mode) (log : List ℕ) (n p : ℕ) (cut : List Event) (room counts words mail report : List ℕ) (tally : Tally) : Turn → Type 0 where
+pub data Turned (mode : Mode) (log : List ℕ) (n p : ℕ) (cut : List Event) (room counts words mail report : List ℕ) (tally : Tally) : Result (Option (Cursor × Tally)) Refusal → Type 0 where
   goes : {next : Cursor} {e : Event} {sum : Tally} → p < next.at → Stands mode log n next.at (e ∷ cut) room counts words mail report sum
-      → Turned mode log n p cut room counts words mail report tally (Next next sum)
+      → Turned mode log n p cut room counts words mail report tally (Ok (Some (next, sum)))
   ends : Stands mode log n (length log) cut room counts words mail report tally
-      → Turned mode log n p cut room counts words mail report tally Last
-  stops : {x q : ℕ} → Stands mode log n p cut room counts words mail report tally → Halts log n p cut x q
-      → Turned mode log n p cut room counts words mail report tally (Stop x q)
+      → Turned mode log n p cut room counts words mail report tally (Ok None)
+  stops : {f : Refusal} → Stands mode log n p cut room counts words mail report tally → Halts log n p cut (number_of f.reason) f.place
+      → Turned mode log n p cut room counts words mail report tally (Err f)
 
 -- after the pass: it stands at the end of the log, or where the log is refused
-pub data Passing (mode : Mode) (log : List ℕ) (n : ℕ) (room counts words mail report : List ℕ) : Passed → Type 0 where
+pub data Passing (mode : Mode) (log : List ℕ) (n : ℕ) (room counts words mail report : List ℕ) : Result Tally Refusal → Type 0 where
   whole : {cut : List Event} {tally : Tally} → Stands mode log n (length log) cut room counts words mail report tally
-      → Passing mode log n room counts words mail report (Whole tally)
-  halted : {p : ℕ} {cut : List Event} {tally : Tally} {x q : ℕ} → Stands mode log n p cut room counts words mail report tally
-      → Halts log n p cut x q → Passing mode log n room counts words mail report (Halted x q)
+      → Passing mode log n room counts words mail report (Ok tally)
+  halted : {p : ℕ} {cut : List Event} {tally : Tally} {f : Refusal} → Stands mode log n p cut room counts words mail report tally
+      → Halts log n p cut (number_of f.reason) f.place → Passing mode log n room counts words mail report (Err f)

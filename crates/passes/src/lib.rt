@@ -1,22 +1,20 @@
 // One pass over the records of a log: the work room follows them, the report is written where its room has space for it.
 #![tactic(auto)]
 
-ghost use Rattle.std.specs.Prelude.{◌≡◌, List, [], ◌∷◌, ℕ, ◌^◌, ◌<◌};
-ghost use Rattle.order.specs.Order.{Event, mark};
+ghost use Rattle.std.specs.Prelude.{◌≡◌, List, [], ◌∷◌, ℕ, ◌^◌, ◌<◌, Ok};
+ghost use Rattle.order.specs.Order.{Event};
 ghost use Rattle.logs.specs.Record.{opening_of};
-ghost use Rattle.logs.specs.declared.Opening.TheVariants.{Nodes};
 ghost use Rattle.verdict.specs.Verdict.{event_of};
 ghost use Rattle.room.specs.Room.{barn, Holds};
 ghost use Rattle.steps.specs.Steps.{Ready};
 ghost use Rattle.groups.specs.Groups.{Written};
-ghost use Rattle.passes.specs.Pass.{Noted, Stands, Turned, Passing, group_by, mark_one, send_one, counted, Small};
+ghost use Rattle.passes.specs.Pass.{Noted, Stands, Turned, Passing, group_by, counted, Small};
 
-use logs::{Cursor, Node, Record, Step};
-use protocol::Admission;
+use logs::{Cursor, Record, Refusal};
 use room::Mode;
 
 // What a run counts.
-#[derive(Clone, Copy)]
+#[derive(Clone, Copy, Default, PartialEq, Eq)]
 pub struct Tally {
     pub events: usize,
     pub marks: usize,
@@ -27,104 +25,69 @@ pub struct Tally {
     pub bytes: usize,
 }
 
-// How a pass ends.
+// What a pass goes over: how messages go, a log, and what its first record says: the node count and where the events begin.
 #[derive(Clone, Copy)]
-pub enum Passed {
-    // All records are well; their totals.
-    Whole(Tally),
-    // The log is refused with this number at this place.
-    Halted(u8, usize),
-}
-
-// How a turn ends.
-#[derive(Clone, Copy)]
-pub enum Turn {
-    // The place past its record, and the totals up to there.
-    Next(Cursor, Tally),
-    // No record is left.
-    Last,
-    // The log is refused with this number at this place.
-    Stop(u8, usize),
+pub struct Course<'a> {
+    pub mode: Mode,
+    pub log: &'a [u8],
+    pub nodes: usize,
+    pub first: Cursor,
+    ghost opened: { opening_of log.now ≡ Ok (nodes, first) },
 }
 
 // Runs the records of the log from the place past the first record on.
 pub fn pass(
-    mode: Mode,
-    log: &[u8],
-    nodes: usize,
-    first: Cursor,
+    course: &Course<'_>,
     counts: &mut [u16],
     words: &mut [u32],
     mail: &mut [u16],
     report: &mut [u8],
-) -> Passed
-    requires opened { opening_of log.now ≡ Nodes nodes first }
-    requires holds { Holds nodes (barn mode []) counts.old words.old mail.old }
-    ensures { Passing mode log.now nodes report.old
+) -> Result<Tally, Refusal>
+    requires { Holds course.now.nodes (barn course.now.mode []) counts.old words.old mail.old }
+    ensures { Passing course.now.mode course.now.log.now course.now.nodes report.old
         counts.new words.new mail.new report.new result }
 {
-    let mut cursor = first;
-    let mut tally = Tally {
-        events: 0,
-        marks: 0,
-        sends: 0,
-        carried: 0,
-        bytes: 0,
-    };
-    loop {
-        match take_turn(mode, log, cursor, nodes, tally, counts, words, mail, report) {
-            Turn::Next(next, sum) => {
-                cursor = next;
-                tally = sum;
-            }
-            Turn::Last => return Passed::Whole(tally),
-            Turn::Stop(number, place) => return Passed::Halted(number, place),
-        }
+    let mut cursor = course.first;
+    let mut tally = Tally::default();
+    while let Some((next, sum)) = take_turn(course, cursor, tally, counts, words, mail, report)? {
+        cursor = next;
+        tally = sum;
     }
+    Ok(tally)
 }
 
-// Reads, judges and applies the record at a place.
+// Reads, judges and applies the record at a place. The place past it and the totals up to there come back; nothing if no record is
+// left.
 fn take_turn(
-    mode: Mode,
-    log: &[u8],
+    course: &Course<'_>,
     cursor: Cursor,
-    nodes: usize,
     tally: Tally,
     counts: &mut [u16],
     words: &mut [u32],
     mail: &mut [u16],
     report: &mut [u8],
-) -> Turn
+) -> Result<Option<(Cursor, Tally)>, Refusal>
     requires { (cut : List Event) × (room : List ℕ)
-        × Stands mode log.now nodes cursor.at cut room counts.old words.old mail.old report.old tally }
+        × Stands course.now.mode course.now.log.now course.now.nodes cursor.at cut room counts.old words.old mail.old report.old tally }
     ensures { (cut : List Event) (room : List ℕ)
-        → Stands mode log.now nodes cursor.at cut room
+        → Stands course.now.mode course.now.log.now course.now.nodes cursor.at cut room
         counts.old words.old mail.old report.old tally
-        → Turned mode log.now nodes cursor.at cut room
+        → Turned course.now.mode course.now.log.now course.now.nodes cursor.at cut room
         counts.new words.new mail.new report.new tally result }
 {
-    match cursor.step(log) {
-        Step::End => Turn::Last,
-        Step::Unknown(place) => Turn::Stop(4, place),
-        Step::Short(place) => Turn::Stop(5, place),
-        Step::Read(event, next) => {
-            match protocol::admit(event, cursor.at, tally.events, nodes, mail) {
-                Admission::Refused(number, place) => Turn::Stop(number, place),
-                Admission::Admitted(slot) => {
-                    let sum = advance(mode, event, slot, nodes, tally, counts, words, mail, report);
-                    Turn::Next(next, sum)
-                }
-            }
-        }
-    }
+    let Some((event, next)) = cursor.step(course.log)? else {
+        return Ok(None);
+    };
+    let slot = protocol::admit(event, cursor.at, tally.events, course.nodes, mail)?;
+    let sum = advance(course, event, slot, tally, counts, words, mail, report);
+    Ok(Some((next, sum)))
 }
 
 // Writes the group of a mark, applies a record that was admitted, and counts it.
 fn advance(
-    mode: Mode,
+    course: &Course<'_>,
     event: Record,
     slot: usize,
-    nodes: usize,
     tally: Tally,
     counts: &mut [u16],
     words: &mut [u32],
@@ -132,17 +95,17 @@ fn advance(
     report: &mut [u8],
 ) -> Tally
     requires { (cut : List Event) × (room : List ℕ)
-        × Ready mode nodes cut (event_of event) slot counts.old words.old mail.old
-        × Noted mode nodes cut room counts.old words.old mail.old report.old tally }
+        × Ready course.now.mode course.now.nodes cut (event_of event) slot counts.old words.old mail.old
+        × Noted course.now.mode course.now.nodes cut room counts.old words.old mail.old report.old tally }
     ensures { (cut : List Event) (room : List ℕ)
-        → Ready mode nodes cut (event_of event) slot counts.old words.old mail.old
-        → Noted mode nodes cut room
+        → Ready course.now.mode course.now.nodes cut (event_of event) slot counts.old words.old mail.old
+        → Noted course.now.mode course.now.nodes cut room
         counts.old words.old mail.old report.old tally
-        → Noted mode nodes (event_of event ∷ cut) room
+        → Noted course.now.mode course.now.nodes (event_of event ∷ cut) room
         counts.new words.new mail.new report.new result }
 {
-    let bytes = show(event, nodes, tally.bytes, counts, words, report);
-    let carried = protocol::apply(mode, event, slot, nodes, counts, words, mail);
+    let bytes = show(event, course.nodes, tally.bytes, counts, words, report);
+    let carried = protocol::apply(course.mode, event, slot, course.nodes, counts, words, mail);
     count(event, carried, bytes, tally)
 }
 
@@ -161,29 +124,9 @@ fn show(
         → Ready mode nodes cut (event_of event) slot counts.now words.now mail
         → Written at (group_by nodes cut (event_of event)) report.old report.new result }
 {
-    match event {
-        Record::Idle(_) => 0,
-        Record::Mark(node) => show_mark(node, nodes, at, counts, words, report),
-        Record::Send(_, _, _) => 0,
-        Record::Receipt(_, _) => 0,
-    }
-}
-
-// The same for a mark at the node.
-fn show_mark(
-    node: Node,
-    nodes: usize,
-    at: usize,
-    counts: &[u16],
-    words: &[u32],
-    report: &mut [u8],
-) -> usize
-    requires { (mode : Mode) × (cut : List Event) × (slot : ℕ) × (mail : List ℕ)
-        × Ready mode nodes cut (mark node.0) slot counts.now words.now mail }
-    ensures { (mode : Mode) (cut : List Event) (slot : ℕ) (mail : List ℕ)
-        → Ready mode nodes cut (mark node.0) slot counts.now words.now mail
-        → Written at (group_by nodes cut (mark node.0)) report.old report.new result }
-{
+    let Record::Mark(node) = event else {
+        return 0;
+    };
     let i = node.0 as usize;
     let row = nodes * i;
     let row_end = row + nodes;
@@ -193,41 +136,21 @@ fn show_mark(
 }
 
 // The totals with a record more.
+#[tactic(auto, unfolding(crate::specs::Pass::counted))]
 fn count(event: Record, carried: usize, bytes: usize, tally: Tally) -> Tally
     requires { Small tally × (carried < 2 ^ 32) × (bytes < 2 ^ 32) }
     ensures { result ≡ counted (event_of event) carried bytes tally }
 {
-    let marks = tally.marks + mark_one(event);
-    let sends = tally.sends + send_one(event);
+    let (marks, sends) = match event {
+        Record::Mark(_) => (1, 0),
+        Record::Send(_, _, _) => (0, 1),
+        Record::Idle(_) | Record::Receipt(_, _) => (0, 0),
+    };
     Tally {
         events: tally.events + 1,
-        marks,
-        sends,
+        marks: tally.marks + marks,
+        sends: tally.sends + sends,
         carried: tally.carried + carried,
         bytes: tally.bytes + bytes,
-    }
-}
-
-// One for a mark, zero for another record.
-fn mark_one(event: Record) -> usize
-    ensures { result ≡ mark_one (event_of event) }
-{
-    match event {
-        Record::Idle(_) => 0,
-        Record::Mark(_) => 1,
-        Record::Send(_, _, _) => 0,
-        Record::Receipt(_, _) => 0,
-    }
-}
-
-// One for a send, zero for another record.
-fn send_one(event: Record) -> usize
-    ensures { result ≡ send_one (event_of event) }
-{
-    match event {
-        Record::Idle(_) => 0,
-        Record::Mark(_) => 0,
-        Record::Send(_, _, _) => 1,
-        Record::Receipt(_, _) => 0,
     }
 }

@@ -1,6 +1,7 @@
 -- The digest of a room: two sums over its bytes.
 -- Assumes nothing.
-use Rattle.std.specs.Prelude.{List, [], ◌∷◌, ℕ, ◌+◌, ◌*◌, ◌/◌, ◌%◌}
+use Rattle.std.specs.Prelude.{List, [], ◌∷◌, ◌++◌, ℕ, ◌+◌, ◌*◌, ◌/◌, ◌%◌}
+use Rattle.std.specs.List.{fold, flat_map}
 use Rattle.probe.specs.declared.digest.Digest.{Digest}
 
 -- one byte more
@@ -8,20 +9,21 @@ unfoldable pub stirred : Digest → ℕ → Digest
 stirred d byte = record { x = (257 * d.x + byte + 1) % 4294967291; y = (65599 * d.y + byte + 1) % 4294967279 }
 
 -- all bytes of a list, in order
-unfoldable pub stir_all : Digest → List ℕ → Digest
-stir_all d [] = d
-stir_all d (byte ∷ rest) = stir_all (stirred d byte) rest
-
 abbrev pub digest_of : List ℕ → Digest
-digest_of bytes = stir_all (record { x = 0; y = 0 }) bytes
+digest_of bytes = fold stirred (record { x = 0; y = 0 }) bytes
 
--- the bytes of two-byte elements, low byte first
-unfoldable pub bytes_of_halves : List ℕ → List ℕ
-bytes_of_halves [] = []
-bytes_of_halves (half ∷ rest) = half % 256 ∷ half / 256 ∷ bytes_of_halves rest
+-- the bytes of a two-byte element, low byte first
+abbrev pub half_bytes : ℕ → List ℕ
+half_bytes half = half % 256 ∷ half / 256 ∷ []
 
--- and of four-byte elements, low half first
-unfoldable pub bytes_of_words : List ℕ → List ℕ
-bytes_of_words [] = []
-bytes_of_words (word ∷ rest) =
-    word % 65536 % 256 ∷ word % 65536 / 256 ∷ word / 65536 % 256 ∷ word / 65536 / 256 ∷ bytes_of_words rest
+-- the bytes of a four-byte element, low half first
+abbrev pub word_bytes : ℕ → List ℕ
+word_bytes word = half_bytes (word % 65536) ++ half_bytes (word / 65536)
+
+-- the bytes of two-byte elements
+abbrev pub bytes_of_halves : List ℕ → List ℕ
+bytes_of_halves halves = flat_map half_bytes halves
+
+-- and of four-byte elements
+abbrev pub bytes_of_words : List ℕ → List ℕ
+bytes_of_words words = flat_map word_bytes words

@@ -1,103 +1,88 @@
 // The header of a question, behind its first byte.
-ghost use Rattle.std.specs.Prelude.{◌≡◌, ◌+◌, ◌*◌, ◌<◌, ◌≤◌, length, get_or};
+ghost use Rattle.std.specs.Prelude.{◌≡◌, ◌+◌, ◌*◌, ◌≤◌, length, get_or};
 
 use logs::{MarkNumber, Node};
-use room::Mode;
 use shape::Mark;
 
-// A question to run a log: the lengths of the rooms and of the log that follows.
+// A question to run a log: the lengths of the rooms and of the log that follows, none more than there is room for.
 #[derive(Clone, Copy)]
 pub struct Run {
-    pub mode: Mode,
     pub counts: usize,
     pub words: usize,
     pub mail: usize,
     pub report: usize,
     pub log: usize,
+    ghost in_bounds: { (counts ≤ 2048) × (words ≤ 2048) × (mail ≤ 8192) × (report ≤ 131072) × (log ≤ 24576) },
 }
 
-// A question to compare two marks, and the length of the report that follows.
+// A question to compare two marks, and the length of the report that follows, no more than there is room for.
 #[derive(Clone, Copy)]
 pub struct Compare {
     pub first: Mark,
     pub second: Mark,
     pub report: usize,
+    ghost in_bounds: { report ≤ 40960 },
 }
 
-// What a header asks.
-#[derive(Clone, Copy)]
-pub enum Question {
-    // To run a log.
-    Run(Run),
-    // To compare two marks.
-    Compare(Compare),
-    // More than there is room for.
-    TooLarge,
+impl Run {
+    // Reads the header of a run; none where it asks for more than there is room for.
+    pub fn read(header: &[u8; 14]) -> Option<Run> {
+        let counts = two_bytes(header, 0) as usize;
+        let words = two_bytes(header, 2) as usize;
+        let mail = two_bytes(header, 4) as usize;
+        let report = four_bytes(header, 6) as usize;
+        let log = four_bytes(header, 10) as usize;
+        if counts > 2048 || words > 2048 || mail > 8192 || report > 131072 || log > 24576 {
+            return None;
+        }
+        Some(Run {
+            counts,
+            words,
+            mail,
+            report,
+            log,
+        })
+    }
+}
+
+impl Compare {
+    // Reads the header of a comparison; none where it asks for more than there is room for.
+    pub fn read(header: &[u8; 10]) -> Option<Compare> {
+        let first = mark(header, 0);
+        let second = mark(header, 3);
+        let report = four_bytes(header, 6) as usize;
+        if report > 40960 {
+            return None;
+        }
+        Some(Compare {
+            first,
+            second,
+            report,
+        })
+    }
 }
 
 // The number of two bytes, low byte first.
-fn two_bytes(header: &[u8], at: usize) -> usize
+fn two_bytes(header: &[u8], at: usize) -> u16
     requires { at + 2 ≤ length header.now }
-    ensures value { result ≡ get_or header.now at 0 + 256 * get_or header.now (at + 1) 0 }
-    ensures upper_bound { result < 65536 }
+    ensures { result ≡ get_or header.now at 0 + 256 * get_or header.now (at + 1) 0 }
 {
-    let low = header[at] as usize;
-    let high = header[at + 1] as usize;
-    low + 256 * high
+    u16::from_le_bytes([header[at], header[at + 1]])
 }
 
 // The number of four bytes, low byte first.
-fn four_bytes(header: &[u8], at: usize) -> usize
+fn four_bytes(header: &[u8], at: usize) -> u32
     requires { at + 4 ≤ length header.now }
 {
-    let low = two_bytes(header, at);
-    let high = two_bytes(header, at + 2);
-    low + 65536 * high
-}
-
-// Reads the header of a run.
-pub fn read_run(mode: Mode, header: &[u8; 14]) -> Question {
-    let counts = two_bytes(header, 0);
-    let words = two_bytes(header, 2);
-    let mail = two_bytes(header, 4);
-    let report = four_bytes(header, 6);
-    let log = four_bytes(header, 10);
-    if counts > 2048 || words > 2048 || mail > 8192 || report > 131072 || log > 24576 {
-        return Question::TooLarge;
-    }
-    Question::Run(Run {
-        mode,
-        counts,
-        words,
-        mail,
-        report,
-        log,
-    })
+    u32::from_le_bytes([header[at], header[at + 1], header[at + 2], header[at + 3]])
 }
 
 // The mark of three bytes: its node, and its number low byte first.
 fn mark(header: &[u8], at: usize) -> Mark
     requires { at + 3 ≤ length header.now }
 {
-    let node = header[at];
-    let number = two_bytes(header, at + 1) as u16;
     Mark {
-        node: Node(node),
-        number: MarkNumber(number),
+        node: Node(header[at]),
+        number: MarkNumber(two_bytes(header, at + 1)),
     }
-}
-
-// Reads the header of a comparison.
-pub fn read_compare(header: &[u8; 10]) -> Question {
-    let first = mark(header, 0);
-    let second = mark(header, 3);
-    let report = four_bytes(header, 6);
-    if report > 40960 {
-        return Question::TooLarge;
-    }
-    Question::Compare(Compare {
-        first,
-        second,
-        report,
-    })
 }

@@ -8,12 +8,13 @@ use lib.ListN.{length}
 use Rattle.order.specs.Order.{Event}
 use Rattle.logs.specs.declared.Record.{Record}
 use Rattle.room.specs.Finding.{Mailed}
-use Rattle.protocol.specs.declared.Admission.{Admission}
+use Rattle.std.specs.Prelude.{Result}
+use Rattle.logs.specs.declared.Refusal.{Refusal}
 use Rattle.protocol.specs.Admission.{Judges}
 use Rattle.protocol.proofs.Judged.{judged_first}
 
 -- Two answers to one record are equal, where the mail holds a cut of so many events.
-pub judges_unique : {event : Record} {at events nodes : ℕ} {mail : List ℕ} {r s : Admission}
+pub judges_unique : {event : Record} {at events nodes : ℕ} {mail : List ℕ} {r s : Result ℕ Refusal}
     → (cut : List Event) × (length cut ≡ events) × Mailed nodes cut mail
     → ((cut : List Event) → length cut ≡ events → Mailed nodes cut mail → Judges nodes cut at event r)
     → ((cut : List Event) → length cut ≡ events → Mailed nodes cut mail → Judges nodes cut at event s)

@@ -1,35 +1,34 @@
 // The protocol, record by record: whether a record may go, and what it does to the work room.
 #![tactic(auto)]
 
-ghost use Rattle.std.specs.Prelude.{◌≡◌, List, ◌+◌, ◌^◌, ◌<◌, length};
+ghost use Rattle.std.specs.Prelude.{◌≡◌, List, ◌+◌, ◌^◌, ◌<◌, ◌≤◌, length, MatchResult};
 ghost use Rattle.order.specs.Order.{Event};
 ghost use Rattle.logs.specs.declared.Record.TheVariants.{Idle, Mark, Send, Receipt};
+ghost use Rattle.logs.specs.Record.{refusal};
 ghost use Rattle.verdict.specs.Verdict.{event_of};
 ghost use Rattle.steps.specs.Steps.{Ready, Follows};
 ghost use Rattle.room.specs.Finding.{Mailed};
 ghost use Rattle.protocol.specs.Admission.{Judges};
 
-use logs::{MessageNumber, Node, Record};
+use logs::{MessageNumber, Node, Reason, Record, Refusal};
 use room::{Mode, mail};
 
-// The answer to a record.
-#[derive(Clone, Copy)]
-pub enum Admission {
-    // It may go; the slot is where its message lies or is to lie.
-    Admitted(usize),
-    // It is refused with this number at this place.
-    Refused(u8, usize),
-}
-
-// Whether the record at this place of the log may go after so many events.
-pub fn admit(event: Record, at: usize, events: usize, nodes: usize, mail: &[u16]) -> Admission
+// Whether the record at this place of the log may go after so many events. If so, the slot where its message lies, or is to lie,
+// comes back.
+pub fn admit(
+    event: Record,
+    at: usize,
+    events: usize,
+    nodes: usize,
+    mail: &[u16],
+) -> Result<usize, Refusal>
     requires at_bound { at + 3 < 2 ^ 64 }
     requires cut_mailed { (cut : List Event) × (length cut ≡ events) × Mailed nodes cut mail.now }
     ensures { (cut : List Event) → length cut ≡ events → Mailed nodes cut mail.now
         → Judges nodes cut at event result }
 {
     if 4096 <= events {
-        return Admission::Refused(12, at);
+        return Err(Reason::TooManyEvents.at(at));
     }
     match event {
         Record::Idle(node) => admit_node(node, at, nodes),
@@ -40,15 +39,26 @@ pub fn admit(event: Record, at: usize, events: usize, nodes: usize, mail: &[u16]
 }
 
 // An idle event or a mark: the node has to be one of the barn's.
-fn admit_node(node: Node, at: usize, nodes: usize) -> Admission
+fn admit_node(node: Node, at: usize, nodes: usize) -> Result<usize, Refusal>
     requires { at + 3 < 2 ^ 64 }
     ensures { (cut : List Event) → length cut < 4096
         → Judges nodes cut at (Idle node) result × Judges nodes cut at (Mark node) result }
 {
-    if nodes <= node.0 as usize {
-        return Admission::Refused(6, at + 1);
+    row_of(node, nodes, at + 1)?;
+    Ok(0)
+}
+
+// The row of a node that is named at a place of the log, if it is one of the barn's.
+fn row_of(node: Node, nodes: usize, place: usize) -> Result<usize, Refusal>
+    ensures { MatchResult result
+        (λ i. (i ≡ node.0) × (node.0 < nodes))
+        (λ f. (f ≡ refusal Reason.NoSuchNode place) × (nodes ≤ node.0)) }
+{
+    let row = node.0 as usize;
+    if nodes <= row {
+        return Err(Reason::NoSuchNode.at(place));
     }
-    Admission::Admitted(0)
+    Ok(row)
 }
 
 // A send: two nodes of the barn, a number that is not in flight, and a free slot.
@@ -59,30 +69,24 @@ fn admit_send(
     at: usize,
     nodes: usize,
     mail: &[u16],
-) -> Admission
+) -> Result<usize, Refusal>
     requires { (length mail.now ≡ 4480) × (at + 3 < 2 ^ 64) }
     ensures { (cut : List Event) → length cut < 4096 → Mailed nodes cut mail.now
         → Judges nodes cut at (Send from to number) result }
 {
-    let i = from.0 as usize;
-    let j = to.0 as usize;
-    if nodes <= i {
-        return Admission::Refused(6, at + 1);
-    }
-    if nodes <= j {
-        return Admission::Refused(6, at + 2);
-    }
+    let i = row_of(from, nodes, at + 1)?;
+    let j = row_of(to, nodes, at + 2)?;
     if i == j {
-        return Admission::Refused(7, at + 2);
+        return Err(Reason::ToItself.at(at + 2));
     }
     let seen = mail::survey(mail, number);
     if seen.repeated {
-        return Admission::Refused(8, at + 3);
+        return Err(Reason::NumberTaken.at(at + 3));
     }
-    if 128 <= seen.flying {
-        return Admission::Refused(9, at);
+    match seen.free {
+        Some(slot) => Ok(slot),
+        None => Err(Reason::MailFull.at(at)),
     }
-    Admission::Admitted(seen.free)
 }
 
 // A receipt: a node of the barn, and a message in flight to it.
@@ -92,24 +96,16 @@ fn admit_receipt(
     at: usize,
     nodes: usize,
     mail: &[u16],
-) -> Admission
+) -> Result<usize, Refusal>
     requires { (length mail.now ≡ 4480) × (at + 3 < 2 ^ 64) }
     ensures { (cut : List Event) → length cut < 4096 → Mailed nodes cut mail.now
         → Judges nodes cut at (Receipt node number) result }
 {
-    if nodes <= node.0 as usize {
-        return Admission::Refused(6, at + 1);
-    }
-    let found = mail::find(mail, number);
-    match found {
-        mail::Found::In(slot) => {
-            let to = 35 * slot + 1;
-            if mail[to] != node.0 as u16 {
-                return Admission::Refused(11, at + 2);
-            }
-            Admission::Admitted(slot)
-        }
-        mail::Found::Nowhere => Admission::Refused(10, at + 2),
+    row_of(node, nodes, at + 1)?;
+    match mail::find(mail, number) {
+        Some(slot) if mail[35 * slot + 1] == node.0 as u16 => Ok(slot),
+        Some(_) => Err(Reason::ToAnother.at(at + 2)),
+        None => Err(Reason::NotInFlight.at(at + 2)),
     }
 }
 

@@ -11,7 +11,7 @@ use native.Mathlib.Numerals.{add-one}
 use native.Mathlib.Omega.{arith}
 use lib.Dec.{eqb, leb}
 use lib.ListN.{length, get_or}
-use borrow.Author.Tests.{le-leb, lt-leb, leb-true, eqb-true}
+use borrow.Author.Tests.{le-leb, leb-true, eqb-true}
 use Rattle.reading.specs.Reading.{number_at, whole_at, stamp_here, count_at, past_count, stamp_place, stamp_at}
 
 -- both tests hold where their conjunction does
@@ -20,10 +20,6 @@ both a b = (and-eq-true_iff a b).0
 
 module _ (report : List ℕ) (p : ℕ) where
   -- ---- a whole record
-
-  pub whole_short : (kind size : ℕ) → p ≤ length report → length report - p < size → whole_at kind size report p ≡ false
-  unfolding whole_at
-  whole_short kind size h l = let k : length report < p + size = omega arith in rw (lt-leb _ _ k)
 
   pub whole_kind : (kind size : ℕ) → p ≤ length report → size ≤ length report - p → whole_at kind size report p ≡ eqb (get_or report p 0) kind
   unfolding whole_at

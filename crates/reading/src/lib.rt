@@ -1,4 +1,5 @@
 // The reader of a report, record by record: what stands at a place. Every function takes any bytes.
+// kept: the report and the place are two parameters, since what these functions promise names both; crates/view holds them as one.
 #![tactic(auto)]
 
 ghost use Rattle.std.specs.Prelude.{◌≡◌, ◌+◌, ◌≤◌, ◌<◌, length};
@@ -12,25 +13,21 @@ pub struct Count {
 }
 
 // Whether a whole record of this kind and so many bytes stands at a place.
+#[tactic(auto, unfolding(crate::specs::Reading::whole_at))]
 pub fn whole(kind: u8, size: usize, report: &[u8], at: usize) -> bool
     requires { (at ≤ length report.now) × (0 < size) }
     ensures { result ≡ whole_at kind size report.now at }
 {
-    if report.len() - at < size {
-        return false;
-    }
-    report[at] == kind
+    size <= report.len() - at && report[at] == kind
 }
 
 // Whether the count of a node stands at a place.
+#[tactic(auto, using(crate::proofs::Standing::whole_fits), unfolding(crate::specs::Reading::stamp_here))]
 fn stamp_here(report: &[u8], at: usize, node: usize) -> bool
     requires { at ≤ length report.now }
     ensures { result ≡ stamp_here report.now at node }
 {
-    if !whole(0x22, 4, report, at) {
-        return false;
-    }
-    report[at + 1] as usize == node
+    whole(0x22, 4, report, at) && report[at + 1] as usize == node
 }
 
 // The number at a place, low byte first.
@@ -38,21 +35,21 @@ pub fn number_at(report: &[u8], at: usize) -> u16
     requires { at + 1 < length report.now }
     ensures { result ≡ number_at report.now at }
 {
-    let low = report[at] as u16;
-    let high = report[at + 1] as u16;
-    low + 256 * high
+    u16::from_le_bytes([report[at], report[at + 1]])
 }
 
 // The count of a node, where it would stand at a place, and the place past it. A missing count is 0 and takes no bytes.
+#[tactic(auto, using(crate::proofs::Standing::stamp_fits_lem), unfolding(crate::specs::Reading::count_at, crate::specs::Reading::past_count))]
 pub fn count_at(report: &[u8], at: usize, node: usize) -> Count
     requires { at ≤ length report.now }
     ensures { (result.count ≡ count_at report.now at node) × (result.past ≡ past_count report.now at node) }
 {
     if stamp_here(report, at, node) {
-        return Count {
+        Count {
             count: number_at(report, at + 2),
             past: at + 4,
-        };
+        }
+    } else {
+        Count { count: 0, past: at }
     }
-    Count { count: 0, past: at }
 }

@@ -2,6 +2,7 @@
 -- comes to the same cut as the first since a log has one verdict.
 -- Assumes nothing.
 use mathlib.Core.Path.{◌≡◌, refl, sym, ◌∙◌, ap, subst}
+use mathlib.Core.Logic.{◌⊎◌, inl, inr}
 use mathlib.Core.Bool.{Bool, true, false, cond}
 use mathlib.Core.List.{List, [], ◌∷◌, ◌++◌, append-nil}
 use Prim.Native.Nat.{ℕ, ◌<◌, ◌≤◌}
@@ -13,7 +14,7 @@ use borrow.Author.Tests.{le-leb, lt-leb}
 use Rattle.order.specs.Order.{Event}
 use Rattle.verdict.specs.Verdict.{Verdict, refused, accepted, verdict}
 use Rattle.verdict.specs.Table as table
-use Rattle.verdict.specs.Table.{row_accepted, row_refused}
+use Rattle.verdict.specs.Table.{refused_2, refused_3, row_accepted, row_refused}
 use Rattle.verdict.proofs.Verdict.{row_verdict, row_unique, not_accepted}
 use Rattle.room.specs.declared.Mode.{Mode}
 use Rattle.room.specs.Room.{barn, Holds, fits, zeroed, Cleared}
@@ -24,12 +25,25 @@ use Rattle.passes.proofs.Notes.{shown_fits}
 use Rattle.passes.proofs.Turns.{halts_refused}
 use Rattle.report.specs.declared.Answer.{Answer}
 use Rattle.report.specs.declared.Answer.TheVariants.{Accepted, SmallRooms, Refused, SmallReport}
-use Rattle.passes.specs.declared.Passed.{Passed}
-use Rattle.passes.specs.declared.Passed.TheVariants.{Whole, Halted}
+use Rattle.std.specs.Prelude.{Result, Ok, Err}
+use Rattle.logs.specs.declared.Refusal.{Refusal}
+use Rattle.logs.specs.Record.{refusal, number_of, opening_of}
+use Rattle.logs.specs.declared.Reason.TheVariants.{NoOpening, NodeCount}
+use Rattle.logs.proofs.FirstRecord.{unopened_there}
 use Rattle.passes.specs.Report.{report_of, tally_of}
 use Rattle.passes.specs.Pass.{Passing, whole, halted}
 use Rattle.report.specs.Run.{overlong, complete, settled, ending, RoomsAfter, Ran}
 use Rattle.report.specs.Settling.{Looked, looked_whole, looked_halted, Zero, FrontAfter, Settles}
+
+-- ---- the first record
+
+-- a log whose first record is not read is refused
+pub opening_refused : {log : List ℕ} {f : Refusal} → opening_of log ≡ Err f → table.Refused log (number_of f.reason) f.place
+opening_refused {log} {f} e = go (unopened_there log e)
+  where
+    go : (f ≡ refusal NoOpening 0) ⊎ (f ≡ refusal NodeCount 1) → table.Refused log (number_of f.reason) f.place
+    go (inl h) = rw h (refused_2 (rw h at e))
+    go (inr h) = rw h (refused_3 (rw h at e))
 
 -- ---- clearing rooms of the fixed sizes
 
@@ -77,21 +91,21 @@ none_lent room (x ∷ part) e = absurd (omega arith)
 -- ---- after the first pass
 
 -- what a pass tells, whatever it left in the rooms
-pub passing_looked : {mode : Mode} {log : List ℕ} {n : ℕ} {room counts words mail report : List ℕ} {r : Passed}
+pub passing_looked : {mode : Mode} {log : List ℕ} {n : ℕ} {room counts words mail report : List ℕ} {r : Result Tally Refusal}
     → Passing mode log n room counts words mail report r → Looked mode log n r
 passing_looked {mode} {log} {n} (whole here) =
-    subst (λ (t : Tally). Looked mode log n (Whole t)) (sym here.noted.tallied) (looked_whole here.reached)
+    subst (λ (t : Tally). Looked mode log n (Ok t)) (sym here.noted.tallied) (looked_whole here.reached)
 passing_looked (halted here h) = looked_halted (halts_refused here.reached h)
 
 module _ {mode : Mode} {log : List ℕ} {n : ℕ} {room : List ℕ} where
-  pub settles_refused : {x q : ℕ} {counts words mail : List ℕ} → Looked mode log n (Halted x q) → Zero counts words mail
-      → Settles mode log room counts words mail room (Refused x q)
+  pub settles_refused : {f : Refusal} {counts words mail : List ℕ} → Looked mode log n (Err f) → Zero counts words mail
+      → Settles mode log room counts words mail room (Refused (number_of f.reason) f.place)
   unfolding settled
   settles_refused (looked_halted h) zero =
       let says = row_verdict log (row_refused h) in
       record { answered = rw says; reported = rw says; fronted = rw says zero }
 
-  pub settles_overlong : {tally : Tally} {counts words mail : List ℕ} → Looked mode log n (Whole tally)
+  pub settles_overlong : {tally : Tally} {counts words mail : List ℕ} → Looked mode log n (Ok tally)
       → length room < tally.bytes → Zero counts words mail → Settles mode log room counts words mail room (SmallReport (length log) tally.bytes)
   unfolding settled tally_of
   settles_overlong (looked_whole here) long zero =
@@ -99,7 +113,7 @@ module _ {mode : Mode} {log : List ℕ} {n : ℕ} {room : List ℕ} where
       let far = lt-leb _ _ long in
       record { answered = rw (says, far); reported = rw (says, far); fronted = rw (says, far) zero }
 
-  pub settles_complete : {tally : Tally} {counts words mail report : List ℕ} {second : Passed} → Looked mode log n (Whole tally)
+  pub settles_complete : {tally : Tally} {counts words mail report : List ℕ} {second : Result Tally Refusal} → Looked mode log n (Ok tally)
       → tally.bytes ≤ length room → Passing mode log n room counts words mail report second
       → Settles mode log room counts words mail report (Accepted (length log) tally)
   unfolding settled tally_of

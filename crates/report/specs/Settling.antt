@@ -1,21 +1,22 @@
 -- What the run's inner functions tell, and what they leave in a work room of just the fixed sizes.
 -- Assumes nothing.
-use Rattle.std.specs.Prelude.{◌≡◌, List, ℕ, length, replicate}
+use Rattle.std.specs.Prelude.{◌≡◌, List, ℕ, length, replicate, Result, Ok, Err}
 use Rattle.order.specs.Order.{Event}
 use Rattle.verdict.specs.Verdict.{verdict}
 use Rattle.verdict.specs.Table.{Reached, Refused}
 use Rattle.room.specs.declared.Mode.{Mode}
 use Rattle.room.specs.Room.{barn, Holds}
-use Rattle.passes.specs.declared.Passed.{Passed}
-use Rattle.passes.specs.declared.Passed.TheVariants.{Whole, Halted}
+use Rattle.logs.specs.declared.Refusal.{Refusal}
+use Rattle.logs.specs.Record.{number_of}
+use Rattle.passes.specs.declared.Tally.{Tally}
 use Rattle.passes.specs.Report.{tally_of}
 use Rattle.report.specs.declared.Answer.{Answer}
 use Rattle.report.specs.Run.{Ending, cramped, refusal, overlong, complete, settled, answer_of, report_after}
 
 -- what the first pass tells: the totals of an accepted log, or its refusal
-pub data Looked (mode : Mode) (log : List ℕ) (n : ℕ) : Passed → Type 0 where
-  looked_whole : {cut : List Event} → Reached log n (length log) cut → Looked mode log n (Whole (tally_of mode n cut))
-  looked_halted : {x q : ℕ} → Refused log x q → Looked mode log n (Halted x q)
+pub data Looked (mode : Mode) (log : List ℕ) (n : ℕ) : Result Tally Refusal → Type 0 where
+  looked_whole : {cut : List Event} → Reached log n (length log) cut → Looked mode log n (Ok (tally_of mode n cut))
+  looked_halted : {f : Refusal} → Refused log (number_of f.reason) f.place → Looked mode log n (Err f)
 
 -- all zero
 pub record Zero (counts words mail : List ℕ) : Type 0 where

@@ -1,16 +1,15 @@
 // The run: from a log's bytes to the report, with full or short messages.
 #![tactic(auto)]
 
-ghost use Rattle.std.specs.Prelude.{◌≡◌};
-ghost use Rattle.logs.specs.Record.{opening_of};
-ghost use Rattle.logs.specs.declared.Opening.TheVariants.{Nodes};
-ghost use Rattle.passes.specs.declared.Passed.TheVariants.{Whole};
+ghost use Rattle.std.specs.Prelude.{◌≡◌, Ok};
+ghost use Rattle.logs.specs.Record.{number_of as reason_number};
 ghost use Rattle.passes.specs.Report.{bytes_alone};
+ghost use Rattle.report.specs.declared.Answer.TheVariants.{Refused};
 ghost use Rattle.report.specs.Run.{number_of, place_of, totals_of, Ran};
 ghost use Rattle.report.specs.Settling.{Looked, Zero, Settles};
 
-use logs::{Cursor, Opening};
-use passes::{Passed, Tally};
+use logs::Refusal;
+use passes::{Course, Tally};
 use room::Mode;
 
 // The answer of a run.
@@ -64,16 +63,22 @@ impl Answer {
     }
 }
 
+// A refused log is answered with the number of the reason, at its place.
+impl From<Refusal> for Answer {
+    ghost from_gives = { λ refusal answer. answer ≡ Refused (reason_number refusal.reason) refusal.place };
+
+    fn from(refusal: Refusal) -> Answer {
+        Answer::Refused(refusal.reason.number(), refusal.place)
+    }
+}
+
 // No totals, but for these bytes.
 fn bytes_alone(bytes: usize) -> Tally
     ensures { result ≡ bytes_alone bytes }
 {
     Tally {
-        events: 0,
-        marks: 0,
-        sends: 0,
-        carried: 0,
         bytes,
+        ..Tally::default()
     }
 }
 
@@ -91,107 +96,82 @@ pub fn run(
         counts.old words.old mail.old report.old
         counts.new words.new mail.new report.new result }
 {
-    if room::clear(counts, words, mail) {
-        match logs::open(log) {
-            Opening::Missing(place) => Answer::Refused(2, place),
-            Opening::OutOfRange(place) => Answer::Refused(3, place),
-            Opening::Nodes(nodes, first) => settle(
+    if !room::clear(counts, words, mail) {
+        return Answer::SmallRooms;
+    }
+    match logs::open(log) {
+        Err(refusal) => Answer::from(refusal),
+        Ok((nodes, first)) => settle(
+            &Course {
                 mode,
                 log,
-                nodes as usize,
+                nodes: nodes as usize,
                 first,
-                &mut counts[..1024],
-                &mut words[..1056],
-                &mut mail[..4480],
-                report,
-            ),
-        }
-    } else {
-        Answer::SmallRooms
+            },
+            &mut counts[..1024],
+            &mut words[..1056],
+            &mut mail[..4480],
+            report,
+        ),
     }
 }
 
 // Runs the records of a log in a cleared work room of the fixed sizes: first to see whether all is well and how long the report
 // is, then, where it fits, to write it.
 fn settle(
-    mode: Mode,
-    log: &[u8],
-    nodes: usize,
-    first: Cursor,
+    course: &Course<'_>,
     counts: &mut [u16],
     words: &mut [u32],
     mail: &mut [u16],
     report: &mut [u8],
 ) -> Answer
-    requires opened { opening_of log.now ≡ Nodes nodes first }
-    requires zero { Zero counts.old words.old mail.old }
-    ensures { Settles mode log.now report.old
+    requires { Zero counts.old words.old mail.old }
+    ensures { Settles course.now.mode course.now.log.now report.old
         counts.new words.new mail.new report.new result }
 {
-    let passed = look(mode, log, nodes, first, counts, words, mail, report);
-    match passed {
-        Passed::Halted(number, place) => Answer::Refused(number, place),
-        Passed::Whole(tally) => {
-            finish(mode, log, nodes, first, tally, counts, words, mail, report)
-        }
+    match look(course, counts, words, mail, report) {
+        Err(refusal) => Answer::from(refusal),
+        Ok(tally) => finish(course, tally, counts, words, mail, report),
     }
 }
 
 // A pass that is lent no byte of the report room, and leaves the work room as it came, all zero.
 fn look(
-    mode: Mode,
-    log: &[u8],
-    nodes: usize,
-    first: Cursor,
+    course: &Course<'_>,
     counts: &mut [u16],
     words: &mut [u32],
     mail: &mut [u16],
     report: &mut [u8],
-) -> Passed
-    requires opened { opening_of log.now ≡ Nodes nodes first }
-    requires zero { Zero counts.old words.old mail.old }
-    ensures looked { Looked mode log.now nodes result }
+) -> Result<Tally, Refusal>
+    requires { Zero counts.old words.old mail.old }
+    ensures looked { Looked course.now.mode course.now.log.now course.now.nodes result }
     ensures zero_again { Zero counts.new words.new mail.new }
     ensures report_unchanged { report.new ≡ report.old }
 {
-    let end: usize = 0;
-    let passed = passes::pass(
-        mode,
-        log,
-        nodes,
-        first,
-        counts,
-        words,
-        mail,
-        &mut report[..end],
-    );
+    let passed = passes::pass(course, counts, words, mail, &mut report[..0]);
     room::clear(counts, words, mail);
     passed
 }
 
 // The end of a run over a log that is accepted, with its totals: the report is written if its room has space for it.
 fn finish(
-    mode: Mode,
-    log: &[u8],
-    nodes: usize,
-    first: Cursor,
+    course: &Course<'_>,
     tally: Tally,
     counts: &mut [u16],
     words: &mut [u32],
     mail: &mut [u16],
     report: &mut [u8],
 ) -> Answer
-    requires opened { opening_of log.now ≡ Nodes nodes first }
     requires zero { Zero counts.old words.old mail.old }
-    requires looked { Looked mode log.now nodes (Whole tally) }
-    ensures { Settles mode log.now report.old
+    requires looked { Looked course.now.mode course.now.log.now course.now.nodes (Ok tally) }
+    ensures { Settles course.now.mode course.now.log.now report.old
         counts.new words.new mail.new report.new result }
 {
-    let end = log.len();
+    let end = course.log.len();
     let bytes = tally.bytes;
     if report.len() < bytes {
         return Answer::SmallReport(end, bytes);
     }
-    passes::pass(mode, log, nodes, first, counts, words, mail, report);
+    let _ = passes::pass(course, counts, words, mail, report);
     Answer::Accepted(end, tally)
 }

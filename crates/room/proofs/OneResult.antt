@@ -7,8 +7,7 @@ use mathlib.Core.List.{List}
 use Prim.Native.Nat.{ℕ, ◌<◌}
 use native.Mathlib.Omega.{arith}
 use Rattle.room.specs.Room.{Cleared}
-use Rattle.room.specs.declared.mail.Found.{Found}
-use Rattle.room.specs.declared.mail.Found.TheVariants.{In}
+use Rattle.std.proofs.Common.{Option, Some}
 use Rattle.room.specs.Finding.{Finds, finds, misses}
 
 -- Two results of clearing one room are equal: the answer and the three slices.
@@ -24,11 +23,11 @@ cleared_unique {done₁ = done₁} {done₂} a b =
     )
 
 -- Two answers to the search for one number in one mail are equal.
-pub finds_unique : {mail : List ℕ} {number : ℕ} {r s : Found} → Finds mail number r → Finds mail number s → r ≡ s
+pub finds_unique : {mail : List ℕ} {number : ℕ} {r s : Option ℕ} → Finds mail number r → Finds mail number s → r ≡ s
 finds_unique (finds {s = s} h b first) (finds {s = t} l c lowest) =
     let before : ¬ (s < t) = λ less. lowest s less b in
     let behind : ¬ (t < s) = λ less. first t less c in
-    ap In (omega arith)
+    ap Some (omega arith)
 finds_unique (finds {s = s} h b first) (misses none) = absurd (none s h b)
 finds_unique (misses none) (finds {s = s} h b first) = absurd (none s h b)
 finds_unique (misses none) (misses also) = refl

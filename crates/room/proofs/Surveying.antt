@@ -2,23 +2,24 @@
 -- has, so that the walk over the mail's slots counts, finds and compares what the cut's slots have.
 -- Assumes nothing.
 use mathlib.Core.Path.{◌≡◌, refl, sym, ap, ◌∙◌}
-use mathlib.Core.Logic.{◌≢◌, ◌⊎◌, inl, inr}
-use mathlib.Core.Bool.{Bool, true, false, ◌||◌, cond, or-false, or-true, true≢false, false≢true}
+use mathlib.Core.Logic.{◌≢◌}
+use mathlib.Core.Bool.{Bool, true, false, ◌||◌, or-false, or-true, true≢false, false≢true}
 use mathlib.Core.Option.{none, some}
 use mathlib.Core.List.{List, [], ◌∷◌}
-use Prim.Native.Nat.{ℕ, zero, suc, ◌+◌, ◌*◌, ◌<◌, ◌≤◌, min}
+use Prim.Native.Nat.{ℕ, zero, suc, ◌+◌, ◌*◌, ◌<◌, ◌≤◌}
 use native.Mathlib.Nat.{le_refl, add-zero}
 use native.Mathlib.Numerals.{add-one}
 use native.Mathlib.Decide.{ℕ_discrete}
 use native.Mathlib.Omega.{arith}
-use lib.Dec.{eqb, eqb-suc-zero}
+use lib.Dec.{eqb-suc-zero}
 use lib.ListN.{length, get_or, take}
 use lib.Seq.{take_all}
 use borrow.Author.Tests.{eq-eqb, eqb-true}
 use Rattle.order.specs.Order.{Event, Flying}
 use Rattle.order.specs.Flight.{Message, in_flight}
-use Rattle.room.specs.declared.mail.Seen.{Seen}
-use Rattle.room.specs.declared.mail.Found.TheVariants.{In, Nowhere}
+use Rattle.std.proofs.Common.{Option, Some, None, MatchOption}
+use Rattle.std.specs.Option.{option_or}
+use Rattle.std.proofs.lemmas.Grind.{common_steps}
 use Rattle.room.specs.Slots.{Slot, slot_at, bears, lowest, slot_of, slots}
 use Rattle.room.specs.Room.{Barn, barn, element, Letters}
 use Rattle.room.specs.Finding.{Bears, Finds, finds, misses, looked, surveyed, Mailed}
@@ -27,28 +28,14 @@ use Rattle.room.proofs.LawfulSlots.{slots_few, flying_lies}
 
 -- ---- the walk over the mail
 
--- a look at the next slot is a step of the walk
-pub surveyed_more : (number : ℕ) (mail : List ℕ) (k at : ℕ) (seen r : Seen)
-    → at ≡ 35 * k → seen ≡ surveyed number mail k → r ≡ looked number k (get_or mail at 0) (get_or mail (at + 2) 0) seen
-    → r ≡ surveyed number mail (k + 1)
-unfolding surveyed
-surveyed_more number mail k at seen r place before now = rw (now, place, before, add-one k)
-
--- a look counts one slot at most
-looked_flying : (number s sender borne : ℕ) (seen : Seen) → (looked number s sender borne seen).flying ≤ suc seen.flying
-unfolding looked
-looked_flying number s sender borne seen = go (eqb sender 0) _ _ (omega arith) (omega arith)
-  where
-    go : {c : ℕ} (b : Bool) (x y : Seen) → x.flying ≤ c → y.flying ≤ c → (cond b x y).flying ≤ c
-    go true x y h k = h
-    go false x y h k = k
-
--- so no more are counted than were looked at
-pub surveyed_flying : (number : ℕ) (mail : List ℕ) (k : ℕ) → (surveyed number mail k).flying ≤ k
-unfolding surveyed
-surveyed_flying number mail zero = le_refl 0
-surveyed_flying number mail (suc k) =
-    omega (arith, surveyed_flying number mail k, looked_flying number k (get_or mail (35 * k) 0) (get_or mail (35 * k + 2) 0) (surveyed number mail k))
+-- as many slots are counted as were looked at if none was free, and fewer if one was
+surveyed_free : (number : ℕ) (mail : List ℕ) (k : ℕ)
+    → MatchOption (surveyed number mail k).free ((surveyed number mail k).flying ≡ k) (λ s. (surveyed number mail k).flying < k)
+unfolding surveyed looked
+surveyed_free number mail zero = refl
+surveyed_free number mail (suc k) =
+    let before = surveyed_free number mail k in
+    grind (arith, common_steps)
 
 -- ---- what the mail shows of a slot
 
@@ -67,8 +54,8 @@ lies {n} {b} {mail} l s h = go (slot_at b.mail s) (λ x. l.laid s x h)
     go (some x) at = (rw (add-zero (35 * s)) at (at 0 (omega arith)), at 1 (omega arith), at 2 (omega arith))
 
 -- the lowest free slot that is known after slot s too
-abbrev freed : ℕ → Slot → ℕ → ℕ
-freed s none free = min free s
+abbrev freed : ℕ → Slot → Option ℕ → Option ℕ
+freed s none free = option_or free (Some s)
 freed s (some x) free = free
 
 -- what a look at slot s makes known
@@ -103,20 +90,21 @@ lowest_least (none ∷ rest) s h = omega arith
 lowest_least (some x ∷ rest) zero h = free_taken (sym h)
 lowest_least (some x ∷ rest) (suc s) h = let k = lowest_least rest s h in omega arith
 
--- what is known of the lowest free slot after k slots: none is known up to it, and after it that one
-abbrev Least : List Slot → ℕ → ℕ → Type 0
-Least S k free = ((k ≤ lowest S) × (free ≡ 128)) ⊎ ((lowest S < k) × (free ≡ lowest S))
+-- what is known of the lowest free slot after k slots: nothing up to it, and after it that one
+abbrev Least : List Slot → ℕ → Option ℕ → Type 0
+Least S k None = k ≤ lowest S
+Least S k (Some s) = (lowest S < k) × (s ≡ lowest S)
 
-least_more : (S : List Slot) (s : ℕ) {free : ℕ} → s < 128 → Least S s free → Least S (suc s) (freed s (slot_at S s) free)
-least_more S s {free} h before = go (slot_at S s) refl before
+least_more : (S : List Slot) (s : ℕ) (free : Option ℕ) → Least S s free → Least S (suc s) (freed s (slot_at S s) free)
+least_more S s free before = go (slot_at S s) refl free before
   where
-    go : (o : Slot) → slot_at S s ≡ o → Least S s free → Least S (suc s) (freed s o free)
-    go none q (inl before) = inr (omega (arith, lowest_least S s q))
-    go none q (inr before) = inr (omega arith)
-    go (some x) q (inl before) =
+    go : (o : Slot) → slot_at S s ≡ o → (free : Option ℕ) → Least S s free → Least S (suc s) (freed s o free)
+    go none q None before = omega (arith, lowest_least S s q)
+    go none q (Some t) before = omega arith
+    go (some x) q None before =
         let other : lowest S ≢ s = λ z. free_taken (sym (lowest_free S) ∙ ap (slot_at S) z ∙ q) in
-        inl (omega arith)
-    go (some x) q (inr before) = inr (omega arith)
+        omega arith
+    go (some x) q (Some t) before = omega arith
 
 -- a slot that has a number has a message with that number
 borne_by : (m : ℕ) (o : Slot) → bears m o ≡ true → (x : Message) × (o ≡ some x) × (x.number ≡ m)
@@ -147,8 +135,8 @@ module _ {n : ℕ} {cut : List Event} {mail : List ℕ} (mailed : Mailed n cut m
     -- the free slot known is the lowest, from there on
     least : (k : ℕ) → k ≤ 128 → Least (slots cut) k (surveyed number mail k).free
     unfolding surveyed
-    least zero h = inl (omega arith)
-    least (suc k) h = rw (step k h).1 (least_more (slots cut) k h (least k (omega arith)))
+    least zero h = omega arith
+    least (suc k) h = rw (step k h).1 (least_more (slots cut) k _ (least k (omega arith)))
 
     -- a repeated number is one that a slot has, and one that a slot has is repeated
     borne : (k : ℕ) → k ≤ 128 → (surveyed number mail k).repeated ≡ true → (s : ℕ) × (bears number (slot_at (slots cut) s) ≡ true)
@@ -176,12 +164,16 @@ module _ {n : ℕ} {cut : List Event} {mail : List ℕ} (mailed : Mailed n cut m
       counted number 128 (le_refl 128) ∙ ap taken (take_all 128 (slots cut) (slots_few mailed.lawful)) ∙ taken_flying cut
 
   -- where there is room, the lowest free slot is found
-  pub survey_free : length (in_flight cut) < 128 → (number : ℕ) → (surveyed number mail 128).free ≡ lowest (slots cut)
-  survey_free room number = go (least number 128 (le_refl 128))
+  pub survey_free : length (in_flight cut) < 128 → (number : ℕ) → (surveyed number mail 128).free ≡ Some (lowest (slots cut))
+  survey_free room number = go (surveyed number mail 128).free (least number 128 (le_refl 128))
     where
-      go : Least (slots cut) 128 (surveyed number mail 128).free → (surveyed number mail 128).free ≡ lowest (slots cut)
-      go (inl h) = omega (arith, lowest_taken (slots cut), taken_flying cut)
-      go (inr h) = h.1
+      go : (free : Option ℕ) → Least (slots cut) 128 free → free ≡ Some (lowest (slots cut))
+      go None h = absurd (omega (arith, lowest_taken (slots cut), taken_flying cut))
+      go (Some s) h = ap Some h.1
+
+  -- and a free slot is found only where there is room
+  pub survey_room : (number : ℕ) → MatchOption (surveyed number mail 128).free (length (in_flight cut) ≡ 128) (λ s. length (in_flight cut) < 128)
+  survey_room number = rw (survey_flying number) at (surveyed_free number mail 128)
 
   -- a number that is repeated is in flight
   pub survey_repeated : (number : ℕ) → (surveyed number mail 128).repeated ≡ true → (a b q : ℕ) × Flying number a b cut q
@@ -209,14 +201,14 @@ module _ {n : ℕ} {cut : List Event} {mail : List ℕ} (mailed : Mailed n cut m
       go (some x) at = (x, refl, sym at.2 ∙ h.1, at.1)
 
   -- a slot that is found has a message in flight to the node that it names
-  pub find_flies : {number s : ℕ} → Finds mail number (In s)
+  pub find_flies : {number s : ℕ} → Finds mail number (Some s)
       → (a : ℕ) × (q : ℕ) × Flying number a (get_or mail (35 * s + 1) 0) cut q × (slot_of number (slots cut) ≡ s) × (s < 128)
   find_flies (finds {s = s} l h first) =
       let (x, at, same, to) = bearer l h in
       (x.from, x.sent, rw to (rw same at (slot_flies cut s at)), rw same at (slot_of_flying cut at), l)
 
   -- and a number that is not found is in no flight
-  pub find_none : {number : ℕ} → Finds mail number Nowhere → (a b q : ℕ) → ¬ Flying number a b cut q
+  pub find_none : {number : ℕ} → Finds mail number None → (a b q : ℕ) → ¬ Flying number a b cut q
   find_none (misses none_has) a b q f =
       let (s, l, at) = flying_lies mailed.lawful f in
       let is = rw at at (shown s l) in

@@ -1,12 +1,11 @@
 -- What is found in the mail: the slot of a letter, the lowest free slot, and how many slots are taken.
 -- Assumes nothing.
-use Rattle.std.specs.Prelude.{◌≡◌, ◌≢◌, false, ◌||◌, cond, List, ℕ, zero, suc, ◌+◌, ◌*◌, ◌<◌, min, eqb, get_or}
+use Rattle.std.specs.Prelude.{◌≡◌, ◌≢◌, false, ◌||◌, cond, List, ℕ, zero, suc, ◌+◌, ◌*◌, ◌<◌, eqb, get_or, Option, Some, None}
+use Rattle.std.specs.Option.{option_or}
 use Rattle.order.specs.Order.{Event}
 use Rattle.verdict.specs.Lawful.{Lawful}
 use Rattle.room.specs.declared.Mode.{Mode}
 use Rattle.room.specs.Room.{barn, Letters}
-use Rattle.room.specs.declared.mail.Found.{Found}
-use Rattle.room.specs.declared.mail.Found.TheVariants.{In, Nowhere}
 use Rattle.room.specs.declared.mail.Seen.{Seen}
 
 -- slot t has a letter with this number
@@ -14,21 +13,21 @@ abbrev pub Bears : List ℕ → ℕ → ℕ → Type 0
 Bears mail number t = (get_or mail (35 * t) 0 ≢ 0) × (get_or mail (35 * t + 2) 0 ≡ number)
 
 -- the first slot that has it, or that none has
-pub data Finds (mail : List ℕ) (number : ℕ) : Found → Type 0 where
-  finds : {s : ℕ} → s < 128 → Bears mail number s → ((t : ℕ) → t < s → ¬ Bears mail number t) → Finds mail number (In s)
-  misses : ((t : ℕ) → t < 128 → ¬ Bears mail number t) → Finds mail number Nowhere
+pub data Finds (mail : List ℕ) (number : ℕ) : Option ℕ → Type 0 where
+  finds : {s : ℕ} → s < 128 → Bears mail number s → ((t : ℕ) → t < s → ¬ Bears mail number t) → Finds mail number (Some s)
+  misses : ((t : ℕ) → t < 128 → ¬ Bears mail number t) → Finds mail number None
 
--- what is known after slot s too, whose first element is `sender` and whose number is `borne`: a free slot may be the lowest,
--- a taken one counts, and may repeat the number
+-- what is known after slot s too, whose first element is `sender` and whose number is `borne`: a free slot is the lowest if none
+-- was free before, a taken one counts, and may repeat the number
 unfoldable pub looked : ℕ → ℕ → ℕ → ℕ → Seen → Seen
 looked number s sender borne seen =
     cond (eqb sender 0)
-    (record { repeated = seen.repeated; free = min seen.free s; flying = seen.flying })
+    (record { repeated = seen.repeated; free = option_or seen.free (Some s); flying = seen.flying })
     (record { repeated = seen.repeated || eqb borne number; free = seen.free; flying = suc seen.flying })
 
 -- what is known of the first k slots
 unfoldable pub surveyed : ℕ → List ℕ → ℕ → Seen
-surveyed number mail zero = record { repeated = false; free = 128; flying = 0 }
+surveyed number mail zero = record { repeated = false; free = None; flying = 0 }
 surveyed number mail (suc k) = looked number k (get_or mail (35 * k) 0) (get_or mail (35 * k + 2) 0) (surveyed number mail k)
 
 -- the mail holds the letters of a lawful cut, sent in either mode

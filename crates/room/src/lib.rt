@@ -3,7 +3,7 @@
 
 pub mod mail;
 
-ghost use Rattle.std.specs.Prelude.{◌≡◌, ◌++◌, ◌≤◌, min, length, drop, replicate};
+ghost use Rattle.std.specs.Prelude.{◌≡◌, min};
 ghost use Rattle.room.specs.Room.{Cleared};
 
 // What goes along with a message.
@@ -22,48 +22,18 @@ pub fn clear(counts: &mut [u16], words: &mut [u32], mail: &mut [u16]) -> bool
         counts.old words.old mail.old
         counts.new words.new mail.new result }
 {
-    if counts.len() < 1024 {
+    if counts.len() < 1024 || words.len() < 1056 || mail.len() < 4480 {
         return false;
     }
-    if words.len() < 1056 {
-        return false;
-    }
-    if mail.len() < 4480 {
-        return false;
-    }
-    zeros16(counts, 1024);
-    zeros32(words, 1056);
-    zeros16(mail, 4480);
+    counts[..1024].fill(0);
+    words[..1056].fill(0);
+    mail[..4480].fill(0);
     true
-}
-
-// Zeros in the first elements, so many of them; the others stay.
-fn zeros16(room: &mut [u16], size: usize)
-    requires { size ≤ length room.old }
-    ensures { room.new ≡ replicate size 0 ++ drop size room.old }
-{
-    let mut k: usize = 0;
-    while k < size {
-        room[k] = 0;
-        k += 1;
-    }
-}
-
-// The same for words.
-fn zeros32(room: &mut [u32], size: usize)
-    requires { size ≤ length room.old }
-    ensures { room.new ≡ replicate size 0 ++ drop size room.old }
-{
-    let mut k: usize = 0;
-    while k < size {
-        room[k] = 0;
-        k += 1;
-    }
 }
 
 // The place, or the end of a room of this size if the place is behind it.
 pub fn within(place: usize, size: usize) -> usize
     ensures { result ≡ min place size }
 {
-    if place < size { place } else { size }
+    place.min(size)
 }

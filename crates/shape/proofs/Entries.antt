@@ -1,34 +1,31 @@
--- A number, a record of four bytes, the head of a group and a row of predecessors, test by test: a test that fails decides, one that
--- holds leaves the question to the others, and what fits has passed them all.
+-- A number, a record of four bytes, the head of a group and a row of predecessors, test by test: what fits has passed them all, and
+-- one that holds leaves the question to the others.
 -- Assumes nothing.
-use mathlib.Core.Path.{◌≡◌, refl, ◌∙◌}
-use mathlib.Core.Bool.{true, false}
+use mathlib.Core.Path.{◌≡◌, refl, sym, ap}
+use mathlib.Core.Bool.{Bool, true, false, cond}
 use mathlib.Core.List.{List}
 use Prim.Native.Nat.{ℕ, zero, suc, ◌+◌, ◌-◌, ◌≤◌, ◌<◌}
 use native.Mathlib.Omega.{arith}
-use lib.Dec.{leb}
 use lib.ListN.{length}
-use borrow.Author.Tests.{le-leb, lt-leb, leb-true, lt-ltb, le-ltb, ltb-true}
+use borrow.Author.Tests.{le-leb, leb-true, lt-ltb, ltb-true}
+use Rattle.std.specs.Prelude.{None, Some}
+use Rattle.std.proofs.lemmas.Option.{cond_some, none-some}
 use Rattle.reading.specs.Reading.{node_at, number_here, whole_at}
 use Rattle.reading.proofs.Standing.{both, whole_fits}
 use Rattle.shape.specs.declared.Mark.{Mark}
 use Rattle.shape.specs.Shape.{in_range, entry_fits, causes_fit, mark_here, mark_fits, head_fits}
 
+-- what is given only where a test is passed, and is not given, tells that it is not passed
+pub not_given : {A : Type 0} (b : Bool) (x : A) → None ≡ cond b (Some x) None → b ≡ false
+not_given true x told = absurd (none-some _ told)
+not_given false x told = refl
+
 -- ---- a number
 
--- 0 is not in range
-pub range_none : (c : ℕ) → c ≡ 0 → in_range c ≡ false
-unfolding in_range
-range_none c e = rw e
-
--- of another number the upper bound decides
-pub range_some : (c : ℕ) → ¬ (c ≡ 0) → in_range c ≡ leb c 4096
-unfolding in_range
-range_some c h = let some : 1 ≤ c = omega arith in rw (le-leb 1 c some)
-
--- so from 1 to 4,096 it is in range
+-- from 1 to 4,096 it is in range
 pub range_fits : (c : ℕ) → 0 < c → c ≤ 4096 → in_range c ≡ true
-range_fits c some most = range_some c (λ e. omega arith) ∙ le-leb c 4096 most
+unfolding in_range
+range_fits c some most = let from : 1 ≤ c = omega arith in rw (le-leb 1 c from, le-leb c 4096 most)
 
 -- and nowhere else
 pub range_within : {c : ℕ} → in_range c ≡ true → (0 < c) × (c ≤ 4096)
@@ -37,27 +34,11 @@ range_within e = let (some, most) = both _ _ e in (leb-true _ _ some, leb-true _
 
 -- ---- a record
 
-module _ (kind : ℕ) (report : List ℕ) (p low : ℕ) where
-  -- none is whole there
-  pub entry_missing : whole_at kind 4 report p ≡ false → entry_fits kind report p low ≡ false
-  unfolding entry_fits
-  entry_missing e = rw e
-
-  -- its node does not ascend
-  pub entry_low : whole_at kind 4 report p ≡ true → node_at report p < low → entry_fits kind report p low ≡ false
-  unfolding entry_fits
-  entry_low e l = rw (e, lt-leb _ _ l)
-
-  -- its node is not below 32
-  pub entry_high : whole_at kind 4 report p ≡ true → low ≤ node_at report p → 32 ≤ node_at report p → entry_fits kind report p low ≡ false
-  unfolding entry_fits
-  entry_high e l h = rw (e, le-leb _ _ l, le-ltb _ _ h)
-
-  -- its number decides
-  pub entry_number : whole_at kind 4 report p ≡ true → low ≤ node_at report p → node_at report p < 32
-      → entry_fits kind report p low ≡ in_range (number_here report p)
-  unfolding entry_fits
-  entry_number e l h = rw (e, le-leb _ _ l, lt-ltb _ _ h)
+-- its number decides, if it is whole and of an ascending node below 32
+pub entry_number : (kind : ℕ) (report : List ℕ) (p low : ℕ) → whole_at kind 4 report p ≡ true → low ≤ node_at report p → node_at report p < 32
+    → entry_fits kind report p low ≡ in_range (number_here report p)
+unfolding entry_fits
+entry_number kind report p low e l h = rw (e, le-leb _ _ l, lt-ltb _ _ h)
 
 -- what a record that fits has
 pub record Entry (kind : ℕ) (report : List ℕ) (p low : ℕ) : Type 0 where
@@ -85,28 +66,25 @@ entry_there {kind} {report} {p} e =
       most = most;
     }
 
+-- what is told of a record that fits: it fits, and its node and its number are those that stand there
+pub entry_given : (kind : ℕ) (report : List ℕ) (p low : ℕ) {m : Mark} → Some m ≡ cond (entry_fits kind report p low) (Some (mark_here report p)) None
+    → (entry_fits kind report p low ≡ true) × Entry kind report p low × (m.node.0 ≡ node_at report p) × (m.number.0 ≡ number_here report p)
+unfolding mark_here
+entry_given kind report p low told =
+    let (fits, same) = cond_some _ _ _ (sym told) in
+    (fits, entry_there fits, ap (λ (x : Mark). x.node.0) (sym same), ap (λ (x : Mark). x.number.0) (sym same))
+
 -- ---- the head of a group
 
--- a mark of no node
-pub mark_high : (m : Mark) → 32 ≤ m.node.0 → mark_fits m ≡ false
-unfolding mark_fits
-mark_high m h = rw (le-ltb _ _ h)
-
--- its number decides
+-- the number of a mark decides, if its node is below 32
 pub mark_low : (m : Mark) → m.node.0 < 32 → mark_fits m ≡ in_range m.number.0
 unfolding mark_fits
 mark_low m h = rw (lt-ltb _ _ h)
 
-module _ (report : List ℕ) (p : ℕ) where
-  -- no head is whole there
-  pub head_missing : whole_at 0x21 5 report p ≡ false → head_fits report p ≡ false
-  unfolding head_fits
-  head_missing e = rw e
-
-  -- its mark decides
-  pub head_mark : whole_at 0x21 5 report p ≡ true → head_fits report p ≡ mark_fits (mark_here report p)
-  unfolding head_fits
-  head_mark e = rw e
+-- the mark of a whole head decides
+pub head_mark : (report : List ℕ) (p : ℕ) → whole_at 0x21 5 report p ≡ true → head_fits report p ≡ mark_fits (mark_here report p)
+unfolding head_fits
+head_mark report p e = rw e
 
 -- what a head that fits has
 pub record Head (report : List ℕ) (p : ℕ) : Type 0 where
@@ -124,11 +102,6 @@ head_there {report} {p} e =
     let (below, number) = both _ _ mark in
     let (some, most) = range_within number in
     record { whole = whole; inside = whole_fits report p 0x21 5 whole; below = ltb-true _ _ below; some = some; most = most }
-
--- its mark's node is below 32
-pub mark_below : (report : List ℕ) (p : ℕ) {m : Mark} → head_fits report p ≡ true → m ≡ mark_here report p → m.node.0 < 32
-unfolding mark_here
-mark_below report p e is = rw is (head_there e).below
 
 -- ---- the direct predecessors
 

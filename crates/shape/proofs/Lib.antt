@@ -3,3 +3,4 @@ pub mod FittingGroup
 pub mod StampPassed
 pub mod GroupSeen
 pub mod GroupWritten
+pub mod Reaching

@@ -1,10 +1,9 @@
 -- The shape of one group of a report, for any bytes (01, "The report"): the rules that it keeps, its mark, and where it ends.
 -- Assumes nothing.
-use Rattle.std.specs.Prelude.{Bool, true, cond, not, ◌&&◌, List, ℕ, zero, suc, ◌+◌, ◌*◌, eqb, leb, ltb, length, get_or}
+use Rattle.std.specs.Prelude.{Bool, true, cond, Option, Some, None, Result, Ok, Err, not, ◌&&◌, List, ℕ, zero, suc, ◌+◌, ◌*◌, eqb, leb, ltb, length, get_or}
 use Rattle.reading.specs.Reading.{node_at, number_here, whole_at, stamp_here, stamp_place, stamp_at, cause_place, cause_count}
 use Rattle.shape.specs.declared.Mark.{Mark}
-use Rattle.shape.specs.declared.Group.{Group}
-use Rattle.shape.specs.declared.Group.TheVariants.{Good, Bad, End}
+use Rattle.shape.specs.declared.BadGroup.{BadGroup}
 
 -- numbers of marks, and counts that are shown, go from 1 to 4,096
 unfoldable pub in_range : ℕ → Bool
@@ -65,6 +64,13 @@ group_fits report p = head_fits report p && stamp_kept report p && causes_kept r
 unfoldable pub past_group : List ℕ → ℕ → ℕ
 past_group report p = cause_place report p + 4 * cause_count report p
 
--- what stands at place p
-unfoldable pub group_seen : List ℕ → ℕ → Group
-group_seen report p = cond (leb (length report) p) End (cond (group_fits report p) (Good (mark_here report p) (past_group report p)) Bad)
+-- a bad group that starts at place p
+abbrev pub bad_at : ℕ → BadGroup
+bad_at p = record { place = p }
+
+-- what stands at place p: none where the report has ended, else a group's mark and the place past it, or a bad group
+unfoldable pub group_seen : List ℕ → ℕ → Result (Option (Mark × ℕ)) BadGroup
+group_seen report p =
+    cond (leb (length report) p)
+    (Ok None)
+    (cond (group_fits report p) (Ok (Some (mark_here report p, past_group report p))) (Err (bad_at p)))

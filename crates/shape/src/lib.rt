@@ -1,166 +1,127 @@
 // The shape of one group of a report: which mark it is of and where it ends, or that it breaks a rule. Any bytes are taken.
 #![tactic(auto)]
 
-ghost use Rattle.std.specs.Prelude.{◌≡◌, true, cond, ◌&&◌, ◌+◌, ◌*◌, ◌≤◌, ◌<◌, eqb, length};
-ghost use Rattle.reading.specs.Reading.{stamp_place, stamp_at};
-ghost use Rattle.shape.specs.declared.Reach.TheVariants.{Past, Broken};
-ghost use Rattle.shape.specs.Shape.{in_range, entry_fits, stamp_fits, stamp_ends, causes_fit, mark_fits, head_fits, mark_here, group_seen};
-ghost use Rattle.shape.specs.Reaching.{body_seen};
+ghost use Rattle.std.specs.Prelude.{◌≡◌, cond, ◌&&◌, ◌+◌, ◌*◌, ◌≤◌, ◌<◌, eqb, length};
+ghost use Rattle.reading.specs.Reading.{whole_at, stamp_place, stamp_at};
+ghost use Rattle.shape.specs.Shape.{in_range, entry_fits, stamp_fits, stamp_ends, causes_fit, mark_fits, group_fits, mark_here, past_group, group_seen};
 
 use logs::{MarkNumber, Node};
 
 // A mark: its node, and its number among the marks of that node.
-#[derive(Clone, Copy, Drop)]
+#[derive(Clone, Copy, Drop, PartialEq, Eq)]
 pub struct Mark {
     pub node: Node,
     pub number: MarkNumber,
 }
 
-// The answer to reading the group at a place.
-#[derive(Clone, Copy)]
-pub enum Group {
-    // The group of this mark, and the place past it.
-    Good(Mark, usize),
-    // What stands there breaks a rule.
-    Bad,
-    // The report ends at or before the place.
-    End,
+// A group that breaks a rule.
+#[derive(Clone, Copy, Drop, PartialEq, Eq)]
+pub struct BadGroup {
+    // The place where it starts.
+    pub place: usize,
 }
 
-// How far a part of a group reaches.
-#[derive(Clone, Copy)]
-pub enum Reach {
-    // The place past it.
-    Past(usize),
-    // It breaks a rule.
-    Broken,
-}
-
-// The group at a place of the report.
-pub fn look(report: &[u8], at: usize) -> Group
+// What stands at a place of the report: none where the report has ended, else a group's mark and the place past it, or a bad group.
+#[tactic(auto, unfolding(crate::specs::Shape::group_seen))]
+pub fn look(report: &[u8], at: usize) -> Result<Option<(Mark, usize)>, BadGroup>
     ensures { result ≡ group_seen report.now at }
 {
     if report.len() <= at {
-        return Group::End;
+        return Ok(None);
     }
-    if !reading::whole(0x21, 5, report, at) {
-        return Group::Bad;
-    }
-    let mark = named(report, at);
-    if !mark_fits(mark) {
-        return Group::Bad;
-    }
-    match body(report, at, mark) {
-        Reach::Past(past) => Group::Good(mark, past),
-        Reach::Broken => Group::Bad,
-    }
+    let seen = fitting(report, at).ok_or(BadGroup { place: at })?;
+    Ok(Some(seen))
 }
 
-// The mark that the head of a group names.
-fn named(report: &[u8], at: usize) -> Mark
-    requires { at + 5 ≤ length report.now }
-    ensures { result ≡ mark_here report.now at }
+// The mark of the group at a place and the place past it, if the group keeps the rules.
+// kept: here and below the report and the place are two parameters, as those of `reading` are that these call; a struct of both would
+// be made anew for every four bytes.
+#[tactic(auto, using(crate::proofs::Reaching::group_tests))]
+fn fitting(report: &[u8], at: usize) -> Option<(Mark, usize)>
+    requires { at ≤ length report.now }
+    ensures { result ≡ cond (group_fits report.now at) (Some (mark_here report.now at, past_group report.now at)) None }
 {
-    let number = reading::number_at(report, at + 2);
-    Mark {
-        node: Node(report[at + 1]),
-        number: MarkNumber(number),
+    let mark = named(0x21, 5, report, at)?;
+    let place = stamp(report, at + 5, mark)?;
+    let past = causes(report, place, report[at + 4])?;
+    Some((mark, past))
+}
+
+// The place past a stamp, if the stamp keeps the rules and has the mark's number at the mark's node.
+fn stamp(report: &[u8], at: usize, mark: Mark) -> Option<usize>
+    requires { (at ≤ length report.now) × (mark.node.0 < 32) }
+    ensures { result ≡ cond (stamp_fits report.now at 32
+        && stamp_ends report.now (stamp_place report.now at 32)
+        && eqb (stamp_at report.now at mark.node.0) mark.number.0)
+        (Some (stamp_place report.now at 32)) None }
+{
+    let mut place = at;
+    let mut low = 0;
+    let mut own = MarkNumber(0);
+    // kept: a `while`, since nothing counts the records of a stamp; the one at the place reached says whether it goes on
+    while reading::whole(0x22, 1, report, place) {
+        let count = entry(0x22, report, place, low)?;
+        if count.node == mark.node {
+            own = count.number;
+        }
+        low = count.node.0 + 1;
+        place += 4;
     }
+    (own == mark.number).then_some(place)
+}
+
+// The place past so many direct predecessors, if they keep the rules.
+fn causes(report: &[u8], at: usize, count: u8) -> Option<usize>
+    requires { at ≤ length report.now }
+    ensures { result ≡ cond (causes_fit report.now at 0 count) (Some (at + 4 * count)) None }
+{
+    let mut place = at;
+    let mut low = 0;
+    for _ in 0..count {
+        let cause = entry(0x23, report, place, low)?;
+        low = cause.node.0 + 1;
+        place += 4;
+    }
+    Some(place)
+}
+
+// What a whole record of this kind at a place names, if that is of a node from `low` on and keeps the rules.
+#[tactic(auto, unfolding(crate::specs::Shape::entry_fits, crate::specs::Shape::mark_here, crate::specs::Shape::mark_fits))]
+fn entry(kind: u8, report: &[u8], at: usize, low: u8) -> Option<Mark>
+    requires { at ≤ length report.now }
+    ensures { result ≡ cond (entry_fits kind report.now at low) (Some (mark_here report.now at)) None }
+{
+    named(kind, 4, report, at).filter(|mark| low <= mark.node.0)
+}
+
+// The node and the number that a whole record of this kind and so many bytes names at a place, if they keep the rules.
+#[tactic(auto, using(reading::proofs::Standing::whole_fits), unfolding(crate::specs::Shape::mark_here))]
+fn named(kind: u8, size: usize, report: &[u8], at: usize) -> Option<Mark>
+    requires { (at ≤ length report.now) × (4 ≤ size) }
+    ensures { result ≡ cond (whole_at kind size report.now at && mark_fits (mark_here report.now at)) (Some (mark_here report.now at)) None }
+{
+    if !reading::whole(kind, size, report, at) {
+        return None;
+    }
+    let mark = Mark {
+        node: Node(report[at + 1]),
+        number: MarkNumber(reading::number_at(report, at + 2)),
+    };
+    mark_fits(mark).then_some(mark)
 }
 
 // Whether a mark's node is below 32, and its number in range.
+#[tactic(auto, unfolding(crate::specs::Shape::mark_fits))]
 fn mark_fits(mark: Mark) -> bool
     ensures { result ≡ mark_fits mark }
 {
-    if 32 <= mark.node.0 {
-        return false;
-    }
-    in_range(mark.number.0)
-}
-
-// How far the group of a mark reaches whose head stands at a place.
-fn body(report: &[u8], at: usize, mark: Mark) -> Reach
-    requires { (head_fits report.now at ≡ true) × (at + 5 ≤ length report.now) × (mark ≡ mark_here report.now at) }
-    ensures { result ≡ body_seen report.now at }
-{
-    let node = mark.node.0 as usize;
-    match stamp(report, at + 5, node, mark.number.0) {
-        Reach::Past(place) => causes(report, place, report[at + 4] as usize),
-        Reach::Broken => Reach::Broken,
-    }
-}
-
-// How far a stamp reaches in which this node has this count.
-fn stamp(report: &[u8], at: usize, node: usize, number: u16) -> Reach
-    requires { (at ≤ length report.now) × (node < 32) }
-    ensures { result ≡ cond (stamp_fits report.now at 32
-        && stamp_ends report.now (stamp_place report.now at 32)
-        && eqb (stamp_at report.now at node) number)
-        (Past (stamp_place report.now at 32)) Broken }
-{
-    let mut place = at;
-    let mut low: usize = 0;
-    let mut own: u16 = 0;
-    while reading::whole(0x22, 1, report, place) {
-        if !entry_fits(0x22, report, place, low) {
-            return Reach::Broken;
-        }
-        let k = report[place + 1] as usize;
-        if k == node {
-            own = reading::number_at(report, place + 2);
-        }
-        low = k + 1;
-        place += 4;
-    }
-    if own == number {
-        return Reach::Past(place);
-    }
-    Reach::Broken
-}
-
-// How far so many direct predecessors reach.
-fn causes(report: &[u8], at: usize, count: usize) -> Reach
-    requires { (at ≤ length report.now) × (count < 256) }
-    ensures { result ≡ cond (causes_fit report.now at 0 count) (Past (at + 4 * count)) Broken }
-{
-    let mut place = at;
-    let mut low: usize = 0;
-    let mut left = count;
-    while 0 < left {
-        if !entry_fits(0x23, report, place, low) {
-            return Reach::Broken;
-        }
-        low = report[place + 1] as usize + 1;
-        place += 4;
-        left -= 1;
-    }
-    Reach::Past(place)
-}
-
-// Whether a whole record of this kind stands at a place, of a node from `low` on and below 32, with a number in range.
-fn entry_fits(kind: u8, report: &[u8], at: usize, low: usize) -> bool
-    requires { at ≤ length report.now }
-    ensures { result ≡ entry_fits kind report.now at low }
-{
-    if !reading::whole(kind, 4, report, at) {
-        return false;
-    }
-    let node = report[at + 1] as usize;
-    if node < low {
-        return false;
-    }
-    if 32 <= node {
-        return false;
-    }
-    in_range(reading::number_at(report, at + 2))
+    mark.node.0 < 32 && in_range(mark.number.0)
 }
 
 // Whether a number is from 1 to 4,096.
+#[tactic(auto, unfolding(crate::specs::Shape::in_range))]
 fn in_range(number: u16) -> bool
     ensures { result ≡ in_range number }
 {
-    if number == 0 {
-        return false;
-    }
-    number <= 4096
+    (1..=4096).contains(&number)
 }

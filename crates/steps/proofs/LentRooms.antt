@@ -3,6 +3,7 @@
 -- Assumes nothing.
 use mathlib.Core.Path.{◌≡◌, refl, sym, ap, ap₂, ◌∙◌, subst}
 use mathlib.Core.Logic.{inl, inr, ⊎_elim}
+use mathlib.Core.Bool.{Bool}
 use mathlib.Core.List.{List}
 use Prim.Native.Nat.{ℕ, zero, suc, ◌+◌, ◌-◌, ◌*◌, ◌^◌, ◌≤◌, ◌<◌}
 use native.Mathlib.Numerals.{add-one}
@@ -19,7 +20,11 @@ use Rattle.steps.specs.Steps.{held, Posted, Received}
 use Rattle.room.proofs.Places.{row_within}
 use Rattle.steps.proofs.Parts.{part_at, part_length, back_in, back_out}
 use Rattle.cells.proofs.Entries.{entries_same}
-use Rattle.cells.proofs.Rowwise.{same_cell}
+
+-- cells with equal parts are equal
+same_cell : {a a' b b' : ℕ} {d d' : Bool} → a ≡ a' → b ≡ b' → d ≡ d'
+    → ◌≡◌ {A = Cell} (record { count = a; column = b; direct = d }) (record { count = a'; column = b'; direct = d' })
+same_cell p q r = λ i. record { count = p i; column = q i; direct = r i }
 
 -- ---- a slot whose first three elements are written and whose letter was then lent
 

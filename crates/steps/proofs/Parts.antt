@@ -24,14 +24,6 @@ part_at xs a k m h = get_or-take k (drop a xs) m 0 h ∙ get_or-drop a xs m 0
 pub part_length : (xs : List ℕ) (a k : ℕ) → a + k ≤ length xs → length (take k (drop a xs)) ≡ k
 part_length xs a k h = simp (length-take, length-drop) (omega arith)
 
--- what bounds a list bounds each part of it
-pub part_bounded : (xs : List ℕ) (a k bound : ℕ) → ((p : ℕ) → get_or xs p 0 ≤ bound) → (m : ℕ) → get_or (take k (drop a xs)) m 0 ≤ bound
-part_bounded xs a k bound h m = go (dec_lt m k)
-  where
-    go : Dec (m < k) → get_or (take k (drop a xs)) m 0 ≤ bound
-    go (yes l) = rw (part_at xs a k m l) (h (a + m))
-    go (no l) = rw (get_or-eq_default (take k (drop a xs)) 0 {n = m} (omega (arith, length-take k (drop a xs)))) (omega arith)
-
 -- ---- a part that has come back as ys
 
 module _ (xs : List ℕ) (a k : ℕ) (ys : List ℕ) (fits : a + k ≤ length xs) (same : length ys ≡ k) where

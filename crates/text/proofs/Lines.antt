@@ -6,6 +6,7 @@ use mathlib.Core.List.{List, [], ◌∷◌, ◌++◌}
 use Prim.Native.Nat.{ℕ, zero, suc, ◌+◌, ◌≤◌, ◌<◌}
 use native.Mathlib.Omega.{arith}
 use lib.ListN.{length, get_or, length-append}
+use Rattle.std.specs.Prelude.{Some, Ok}
 use Rattle.machine.specs.Answer.{Answer}
 use Rattle.groups.specs.Groups.{laid, group_of, groups_of}
 use Rattle.groups.proofs.GroupsSame.{groups_more}
@@ -14,7 +15,6 @@ use Rattle.reading.proofs.GroupRead.{amid, group_node, group_stamp, group_neares
 use Rattle.shape.specs.Fits.{Fits}
 use Rattle.shape.proofs.GroupWritten.{group_past, group_fits_lem}
 use Rattle.text.specs.Text.{stamp_text, stamp_part, line_of, written_line, line_at}
-use Rattle.text.specs.declared.Line.TheVariants.{Written}
 use Rattle.text.proofs.Answered.{line_there}
 
 -- only the counts of the nodes below n are printed
@@ -35,7 +35,7 @@ module _ (n : ℕ) (few : n ≤ 32) {a : Answer} (fits : Fits a) where
     -- so that line is laid over the front of the room, and the place past the group is answered
     pub line_of_group : (room : List ℕ)
         → line_at n (amid before a behind) (length before) room
-        ≡ (Written (length (line_of n a)) (length before + length (group_of 32 a)), laid 0 (line_of n a) room)
+        ≡ (Ok (Some (record { size = length (line_of n a); past = length before + length (group_of 32 a) })), laid 0 (line_of n a) room)
     unfolding written_line
     line_of_group room =
         line_there n _ _ room few (group_fits_lem fits before behind next)
@@ -45,7 +45,7 @@ module _ (n : ℕ) (few : n ≤ 32) {a : Answer} (fits : Fits a) where
   -- is answered.
   pub line_of_answer : (done rest : List Answer) (room : List ℕ)
       → line_at n (groups_of 32 (done ++ (a ∷ rest))) (length (groups_of 32 done)) room
-      ≡ (Written (length (line_of n a)) (length (groups_of 32 (done ++ (a ∷ [])))), laid 0 (line_of n a) room)
+      ≡ (Ok (Some (record { size = length (line_of n a); past = length (groups_of 32 (done ++ (a ∷ []))) })), laid 0 (line_of n a) room)
   line_of_answer done rest room =
       rw (groups_amid done rest a, groups_more 32 done a, length-append (groups_of 32 done) (group_of 32 a))
       (line_of_group (groups_of 32 done) (groups_of 32 rest) (groups_clear rest) room)

@@ -3,11 +3,11 @@
 use mathlib.Core.Path.{◌≡◌, refl}
 use mathlib.Core.List.{List, [], ◌∷◌}
 use Prim.Native.Nat.{ℕ}
+use Rattle.std.specs.Prelude.{Some, None, Ok, Err}
 use Rattle.words.specs.Words.{digits, decimal}
 use Rattle.reading.specs.Reading.{whole_at, stamp_here, count_at, past_count, stamp_place, stamp_at, causes_at, answer_at}
 use Rattle.shape.specs.Shape.{in_range, entry_fits, stamp_fits, stamp_ends, causes_fit, mark_here, mark_fits, head_fits, stamp_kept, causes_kept, group_fits, past_group}
 use Rattle.text.specs.Text.{name_text, stamp_text, causes_text, nearest_text, mark_part, stamp_part, from_part, line_of, written_line, line_at}
-use Rattle.text.specs.declared.Line.TheVariants.{Written, End, Bad}
 
 -- ---- numbers
 
@@ -35,7 +35,7 @@ first_text =
     ∷ 32 ∷ 115 ∷ 116 ∷ 97 ∷ 109 ∷ 112 ∷ 32 ∷ 49 ∷ 32 ∷ 48 ∷ 32 ∷ 48
     ∷ 32 ∷ 102 ∷ 114 ∷ 111 ∷ 109 ∷ 32 ∷ 45 ∷ 10 ∷ []
 
-first_line : line_at 3 report_a 0 [] ≡ (Written 28 9, first_text)
+first_line : line_at 3 report_a 0 [] ≡ (Ok (Some (record { size = 28; past = 9 })), first_text)
 unfolding first_text line_at written_line group_fits head_fits mark_fits mark_here stamp_kept causes_kept causes_fit stamp_fits stamp_ends entry_fits in_range past_group answer_at whole_at stamp_here count_at past_count stamp_place stamp_at causes_at line_of mark_part stamp_part from_part name_text stamp_text causes_text nearest_text decimal digits
 first_line = refl
 
@@ -46,7 +46,7 @@ second_text =
     ∷ 32 ∷ 115 ∷ 116 ∷ 97 ∷ 109 ∷ 112 ∷ 32 ∷ 49 ∷ 32 ∷ 49 ∷ 32 ∷ 48
     ∷ 32 ∷ 102 ∷ 114 ∷ 111 ∷ 109 ∷ 32 ∷ 48 ∷ 46 ∷ 49 ∷ 10 ∷ []
 
-second_line : line_at 3 report_a 9 [] ≡ (Written 30 26, second_text)
+second_line : line_at 3 report_a 9 [] ≡ (Ok (Some (record { size = 30; past = 26 })), second_text)
 unfolding second_text line_at written_line group_fits head_fits mark_fits mark_here stamp_kept causes_kept causes_fit stamp_fits stamp_ends entry_fits in_range past_group answer_at whole_at stamp_here count_at past_count stamp_place stamp_at causes_at line_of mark_part stamp_part from_part name_text stamp_text causes_text nearest_text decimal digits
 second_line = refl
 
@@ -57,22 +57,22 @@ third_text =
     ∷ 32 ∷ 115 ∷ 116 ∷ 97 ∷ 109 ∷ 112 ∷ 32 ∷ 49 ∷ 32 ∷ 49 ∷ 32 ∷ 49
     ∷ 32 ∷ 102 ∷ 114 ∷ 111 ∷ 109 ∷ 32 ∷ 49 ∷ 46 ∷ 49 ∷ 10 ∷ []
 
-third_line : line_at 3 report_a 26 [] ≡ (Written 30 47, third_text)
+third_line : line_at 3 report_a 26 [] ≡ (Ok (Some (record { size = 30; past = 47 })), third_text)
 unfolding third_text line_at written_line group_fits head_fits mark_fits mark_here stamp_kept causes_kept causes_fit stamp_fits stamp_ends entry_fits in_range past_group answer_at whole_at stamp_here count_at past_count stamp_place stamp_at causes_at line_of mark_part stamp_part from_part name_text stamp_text causes_text nearest_text decimal digits
 third_line = refl
 
-report_ends : line_at 3 report_a 47 [] ≡ (End, [])
+report_ends : line_at 3 report_a 47 [] ≡ (Ok None, [])
 unfolding line_at
 report_ends = refl
 
 -- ---- no line
 
 -- a group that is cut short
-cut_short : line_at 3 (0x21 ∷ 0 ∷ 1 ∷ 0 ∷ 1 ∷ 0x22 ∷ 0 ∷ 1 ∷ 0 ∷ 0x23 ∷ 0 ∷ 1 ∷ []) 0 [] ≡ (Bad, [])
+cut_short : line_at 3 (0x21 ∷ 0 ∷ 1 ∷ 0 ∷ 1 ∷ 0x22 ∷ 0 ∷ 1 ∷ 0 ∷ 0x23 ∷ 0 ∷ 1 ∷ []) 0 [] ≡ (Err (record {}), [])
 unfolding line_at group_fits head_fits mark_fits mark_here stamp_kept causes_kept causes_fit stamp_fits stamp_ends entry_fits in_range whole_at stamp_here count_at past_count stamp_place stamp_at
 cut_short = refl
 
 -- one without the mark's own count
-unstamped : line_at 3 (0x21 ∷ 0 ∷ 1 ∷ 0 ∷ 0 ∷ []) 0 [] ≡ (Bad, [])
+unstamped : line_at 3 (0x21 ∷ 0 ∷ 1 ∷ 0 ∷ 0 ∷ []) 0 [] ≡ (Err (record {}), [])
 unfolding line_at group_fits head_fits mark_fits mark_here stamp_kept causes_kept causes_fit stamp_fits stamp_ends in_range whole_at stamp_here count_at past_count stamp_place stamp_at
 unstamped = refl

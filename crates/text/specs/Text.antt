@@ -1,13 +1,13 @@
 -- The program's text: a line for each mark of a report (01, "Logs to try"). A word stands as the codes of its letters.
 -- Assumes nothing.
-use Rattle.std.specs.Prelude.{cond, ◌&&◌, List, [], ◌∷◌, ◌++◌, ℕ, zero, suc, leb, length}
+use Rattle.std.specs.Prelude.{cond, ◌&&◌, Option, Some, None, Result, Ok, Err, List, [], ◌∷◌, ◌++◌, ℕ, zero, suc, leb, length}
 use Rattle.machine.specs.Answer.{Answer}
 use Rattle.groups.specs.Groups.{laid}
 use Rattle.words.specs.Words.{decimal}
 use Rattle.reading.specs.Reading.{answer_at}
 use Rattle.shape.specs.Shape.{group_fits, past_group}
 use Rattle.text.specs.declared.Line.{Line}
-use Rattle.text.specs.declared.Line.TheVariants.{Written, End, Bad}
+use Rattle.text.specs.declared.NoLine.{NoLine}
 
 -- ---- the line of a mark
 
@@ -49,12 +49,12 @@ line_of n a = mark_part a.node (a.stamp a.node) ++ stamp_part n a.stamp ++ from_
 -- ---- from the report to the lines
 
 -- the answer and the room where this line, of a group that ends at this place, lies over the room's front
-unfoldable pub written_line : List ℕ → ℕ → List ℕ → Line × List ℕ
-written_line line past room = (Written (length line) past, laid 0 line room)
+unfoldable pub written_line : List ℕ → ℕ → List ℕ → Result (Option Line) NoLine × List ℕ
+written_line line past room = (Ok (Some (record { size = length line; past = past })), laid 0 line room)
 
--- The answer and the room at place p of a report. Where no group stands that keeps the rules, and for more than 32 nodes, the room
--- is as it was.
-unfoldable pub line_at : ℕ → List ℕ → ℕ → List ℕ → Line × List ℕ
+-- The answer and the room at place p of a report: none where the report has ended. Where no group stands that keeps the rules, and for
+-- more than 32 nodes, there is no line, and the room is as it was.
+unfoldable pub line_at : ℕ → List ℕ → ℕ → List ℕ → Result (Option Line) NoLine × List ℕ
 line_at n report p room =
-    cond (leb (length report) p) (End, room)
-    (cond (leb n 32 && group_fits report p) (written_line (line_of n (answer_at report p)) (past_group report p) room) (Bad, room))
+    cond (leb (length report) p) (Ok None, room)
+    (cond (leb n 32 && group_fits report p) (written_line (line_of n (answer_at report p)) (past_group report p) room) (Err (record {}), room))

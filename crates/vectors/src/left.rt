@@ -1,4 +1,5 @@
 // What a run leaves in its rooms, seen against the pattern that they were filled with.
+use std::fmt;
 
 // What stands in a part of a room.
 #[derive(Clone, Copy)]
@@ -11,57 +12,57 @@ pub enum State {
     Used,
 }
 
-// What stands in a room from one place to another.
-pub fn part16(room: &[u16], from: usize, end: usize) -> State {
-    if all16(room, from, end, 0xA5A5) {
-        return State::Untouched;
-    }
-    if all16(room, from, end, 0) {
-        return State::Zero;
-    }
-    State::Used
-}
-
-// The same for words.
-pub fn part32(room: &[u32], from: usize, end: usize) -> State {
-    if all32(room, from, end, 0xA5A5A5A5) {
-        return State::Untouched;
-    }
-    if all32(room, from, end, 0) {
-        return State::Zero;
-    }
-    State::Used
-}
-
-// How far a report reaches in its room: the place behind the last byte that is not the pattern. No report ends in that byte.
-pub fn reach(room: &[u8]) -> usize {
-    let mut end = room.len();
-    while 0 < end && room[end - 1] == 0xA5 {
-        end -= 1;
-    }
-    end
-}
-
-// Whether the elements of a room from one place to another are all this value.
-fn all16(room: &[u16], from: usize, end: usize, value: u16) -> bool {
-    let mut k = from;
-    while k < end && k < room.len() {
-        if room[k] != value {
-            return false;
+impl State {
+    // What stands in a part of a room that was filled with a pattern.
+    pub fn of<T: Copy + PartialEq + Default>(part: &[T], pattern: T) -> State {
+        if part.iter().all(|element| *element == pattern) {
+            State::Untouched
+        } else if part.iter().all(|element| *element == T::default()) {
+            State::Zero
+        } else {
+            State::Used
         }
-        k += 1;
     }
-    true
 }
 
-// The same for words.
-fn all32(room: &[u32], from: usize, end: usize, value: u32) -> bool {
-    let mut k = from;
-    while k < end && k < room.len() {
-        if room[k] != value {
-            return false;
+// Its word in a line.
+impl fmt::Display for State {
+    fn fmt<W: fmt::Write>(&self, f: &mut fmt::Formatter<W>) -> fmt::Result {
+        match self {
+            State::Untouched => write!(f, "untouched"),
+            State::Zero => write!(f, "zero"),
+            State::Used => write!(f, "used"),
         }
-        k += 1;
     }
-    true
+}
+
+// A report room: up to the last byte that is not the pattern, which no report ends in, it was written.
+#[derive(Drop)]
+pub struct Report<'a>(pub &'a [u8]);
+
+impl Report<'_> {
+    // The bytes that were written.
+    fn written(&self) -> &[u8] {
+        match self.0.iter().rposition(|byte| *byte != 0xA5) {
+            Some(last) => &self.0[..=last],
+            None => &[],
+        }
+    }
+}
+
+// The end of a line, behind a space: that nothing was written, the bytes of a short report, or how far a long one reaches.
+impl fmt::Display for Report<'_> {
+    fn fmt<W: fmt::Write>(&self, f: &mut fmt::Formatter<W>) -> fmt::Result {
+        let written = self.written();
+        match written.len() {
+            0 => write!(f, " {}", State::Untouched),
+            1..=64 => {
+                for byte in written {
+                    write!(f, " {byte:02x}")?;
+                }
+                Ok(())
+            }
+            end => write!(f, " to {end}"),
+        }
+    }
 }

@@ -18,11 +18,11 @@
 mod bounds;
 mod left;
 mod log_a;
-mod say;
 mod trial;
 
 use room::Mode;
 use std::io;
+use trial::Trials;
 
 // All cases, in both modes.
 fn main(rt: HostRuntime) -> io::Result<()> {
@@ -32,32 +32,25 @@ fn main(rt: HostRuntime) -> io::Result<()> {
 
 // All cases, in one mode.
 fn all(rt: &impl Print, mode: Mode) -> io::Result<()> {
-    few(rt, mode)?;
-    log_a::all(rt, mode)?;
-    bounds::all(rt, mode)
+    let trials = Trials { rt, mode };
+    trials.few()?;
+    trials.log_a()?;
+    trials.bounds()
 }
 
-// 32 nodes, two marks of one node, log B, and the highest node that tells the lowest, with the highest number.
-fn few(rt: &impl Print, mode: Mode) -> io::Result<()> {
-    named(rt, mode, b"32 nodes", b"\x10\x20")?;
-    named(rt, mode, b"mark 2 from mark 1", b"\x10\x01\x12\x00\x12\x00")?;
-    named(
-        rt,
-        mode,
-        b"B",
-        b"\x10\x02\x12\x00\x13\x00\x01\x01\x00\x14\x01\x01\x00\x13\x01\x00\x02\x00\x12\x01\
-          \x13\x01\x00\x03\x00\x14\x00\x03\x00\x12\x00\x14\x00\x02\x00",
-    )?;
-    named(
-        rt,
-        mode,
-        b"node 31 tells node 0",
-        b"\x10\x20\x12\x1F\x13\x1F\x00\xFF\xFF\x14\x00\xFF\xFF\x12\x00",
-    )
-}
-
-// A log and its name.
-fn named(rt: &impl Print, mode: Mode, name: &[u8], log: &[u8]) -> io::Result<()> {
-    say::text(rt, name)?;
-    trial::usual(rt, mode, log, log.len())
+impl<R: Print> Trials<'_, R> {
+    // 32 nodes, two marks of one node, log B, and the highest node that tells the lowest, with the highest number.
+    fn few(&self) -> io::Result<()> {
+        self.usual("32 nodes", b"\x10\x20")?;
+        self.usual("mark 2 from mark 1", b"\x10\x01\x12\x00\x12\x00")?;
+        self.usual(
+            "B",
+            b"\x10\x02\x12\x00\x13\x00\x01\x01\x00\x14\x01\x01\x00\x13\x01\x00\x02\x00\x12\x01\
+              \x13\x01\x00\x03\x00\x14\x00\x03\x00\x12\x00\x14\x00\x02\x00",
+        )?;
+        self.usual(
+            "node 31 tells node 0",
+            b"\x10\x20\x12\x1F\x13\x1F\x00\xFF\xFF\x14\x00\xFF\xFF\x12\x00",
+        )
+    }
 }

@@ -1,65 +1,117 @@
 // One trial: rooms filled with a pattern, a run in them, and the line that says what it answered and what it left.
-ghost use Rattle.std.specs.Prelude.{◌≤◌, length};
+ghost use Rattle.std.specs.Prelude.{◌≤◌};
 
-use crate::{left, say};
+use crate::left::{Report, State};
+use report::Answer;
 use room::Mode;
-use std::io;
+use std::fmt::Display;
+use std::{fmt, io};
 
-// Runs a log in work rooms with something behind their fixed sizes, and in the report room of the program.
-pub fn usual(rt: &impl Print, mode: Mode, log: &[u8], end: usize) -> io::Result<()>
-    requires { end ≤ length log.now }
-{
-    trial(rt, mode, log, end, 1040, 1072, 4496, 16384)
-}
-
-// Runs a log up to a place, in rooms of so many elements, and prints the line behind the name of the case.
-pub fn trial(
-    rt: &impl Print,
-    mode: Mode,
-    log: &[u8],
-    end: usize,
+// How many elements of each room are lent to a run.
+#[derive(Clone, Copy)]
+pub struct Sizes {
     counts: usize,
     words: usize,
     mail: usize,
     report: usize,
-) -> io::Result<()>
-    requires end_in_bounds { end ≤ length log.now }
-    requires counts_bound { (counts ≤ 1040) × (words ≤ 1072) × (mail ≤ 4496) × (report ≤ 16400) }
-{
-    let mut count_room = [0xA5A5u16; 1040];
-    let mut word_room = [0xA5A5A5A5u32; 1072];
-    let mut mail_room = [0xA5A5u16; 4496];
-    let mut report_room = [0xA5u8; 16400];
-    let answer = report::run(
-        mode,
-        &log[..end],
-        &mut count_room[..counts],
-        &mut word_room[..words],
-        &mut mail_room[..mail],
-        &mut report_room[..report],
-    );
-    say::answer(rt, mode, answer)?;
-    say_left(rt, &count_room, &word_room, &mail_room, &report_room)
+    ghost within: { (counts ≤ 1040) × (words ≤ 1072) × (mail ≤ 4496) × (report ≤ 16400) },
 }
 
-// The end of the line: what the run left in the front of each work room and behind it, and the report.
-fn say_left(
-    rt: &impl Print,
-    counts: &[u16],
-    words: &[u32],
-    mail: &[u16],
-    report: &[u8],
-) -> io::Result<()> {
-    say::sign(rt, b';')?;
-    say::state(rt, left::part16(counts, 0, 1024))?;
-    say::state(rt, left::part16(counts, 1024, 1040))?;
-    say::sign(rt, b',')?;
-    say::state(rt, left::part32(words, 0, 1056))?;
-    say::state(rt, left::part32(words, 1056, 1072))?;
-    say::sign(rt, b',')?;
-    say::state(rt, left::part16(mail, 0, 4480))?;
-    say::state(rt, left::part16(mail, 4480, 4496))?;
-    say::sign(rt, b';')?;
-    say::report(rt, report, left::reach(report))?;
-    say::sign(rt, b'\n')
+impl Sizes {
+    // Work rooms with something behind their fixed sizes, and the report room of the program.
+    pub const USUAL: Sizes = Sizes {
+        counts: 1040,
+        words: 1072,
+        mail: 4496,
+        report: 16384,
+    };
+
+    // These sizes.
+    pub fn new(counts: usize, words: usize, mail: usize, report: usize) -> Sizes
+        requires { (counts ≤ 1040) × (words ≤ 1072) × (mail ≤ 4496) × (report ≤ 16400) }
+    {
+        Sizes {
+            counts,
+            words,
+            mail,
+            report,
+        }
+    }
+}
+
+// The four numbers.
+impl Display for Sizes {
+    fn fmt<W: fmt::Write>(&self, f: &mut fmt::Formatter<W>) -> fmt::Result {
+        write!(
+            f,
+            "{} {} {} {}",
+            self.counts, self.words, self.mail, self.report
+        )
+    }
+}
+
+// Where trials are printed, and the mode of their runs.
+#[derive(Drop)]
+pub struct Trials<'a, R: Print> {
+    pub rt: &'a R,
+    pub mode: Mode,
+}
+
+impl<R: Print> Trials<'_, R> {
+    // Runs a log in the usual rooms.
+    pub fn usual(&self, name: impl Display + Drop, log: &[u8]) -> io::Result<()> {
+        self.run(name, log, Sizes::USUAL)
+    }
+
+    // Runs a log in rooms of these sizes, and prints the line of the case.
+    pub fn run(&self, name: impl Display + Drop, log: &[u8], sizes: Sizes) -> io::Result<()> {
+        let mut counts = [0xA5A5u16; 1040];
+        let mut words = [0xA5A5A5A5u32; 1072];
+        let mut mail = [0xA5A5u16; 4496];
+        let mut report = [0xA5u8; 16400];
+        let answer = report::run(
+            self.mode,
+            log,
+            &mut counts[..sizes.counts],
+            &mut words[..sizes.words],
+            &mut mail[..sizes.mail],
+            &mut report[..sizes.report],
+        );
+        print!(self.rt; "{name}, ")?;
+        self.print_answer(answer)?;
+        self.print_left(&counts, &words, &mail, &report)
+    }
+
+    // The mode of a run and its answer: number, place, events, marks, sends, carried entries and report bytes.
+    fn print_answer(&self, answer: Answer) -> io::Result<()> {
+        let mode = match self.mode {
+            Mode::Full => "full",
+            Mode::Short => "short",
+        };
+        let (number, place, totals) = (answer.number(), answer.place(), answer.totals());
+        print!(self.rt;
+            "{mode}: {number} {place} {} {} {} {} {};",
+            totals.events, totals.marks, totals.sends, totals.carried, totals.bytes
+        )
+    }
+
+    // The end of the line: what the run left in the front of each work room and behind it, and the report.
+    fn print_left(
+        &self,
+        counts: &[u16; 1040],
+        words: &[u32; 1072],
+        mail: &[u16; 4496],
+        report: &[u8],
+    ) -> io::Result<()> {
+        println!(self.rt;
+            " {} {}, {} {}, {} {};{}",
+            State::of(&counts[..1024], 0xA5A5),
+            State::of(&counts[1024..], 0xA5A5),
+            State::of(&words[..1056], 0xA5A5A5A5),
+            State::of(&words[1056..], 0xA5A5A5A5),
+            State::of(&mail[..4480], 0xA5A5),
+            State::of(&mail[4480..], 0xA5A5),
+            Report(report)
+        )
+    }
 }

@@ -12,9 +12,7 @@ use lib.Seq.{length-take-le, get_or-take}
 use Rattle.order.specs.Order.{Event}
 use Rattle.logs.specs.declared.Cursor.{Cursor}
 use Rattle.logs.specs.declared.Record.{Record}
-use Rattle.logs.specs.declared.Step.{Step}
-use Rattle.logs.specs.declared.Step.TheVariants.{Read, End, Unknown, Short}
-use Rattle.logs.specs.declared.Opening.TheVariants.{Nodes}
+use Rattle.logs.proofs.FirstRecord.{opened_one}
 use Rattle.logs.specs.Record.{record_at, opening_of}
 use Rattle.verdict.specs.Verdict.{Verdict, accepted, event_of, Rule, rules, first_broken, after_step, after_rules, walk, verdict}
 use Rattle.verdict.specs.Table.{Reached, reached_first, reached_next, Ends, ends_first, ends_next, refused_rule}
@@ -23,6 +21,8 @@ use Rattle.logs.proofs.FirstRecord.{nodes_there, nodes_same}
 use Rattle.verdict.proofs.Rules.{Judged, judged_breaks, judged_passes, judged}
 use Rattle.verdict.proofs.Walk.{reached_walk}
 use Rattle.verdict.proofs.Verdict.{not_accepted, reached_bound, verdict_accepted, verdict_refused}
+use Rattle.std.specs.Prelude.{Some, None, Ok, Err}
+use Rattle.logs.specs.Record.{Step}
 
 -- ---- the bytes before a place decide what was reached there
 
@@ -60,7 +60,7 @@ reached_cut {log} (x ∷ later) (reached_next {p = p} before e h) =
 -- ---- every place after a whole record
 
 -- the node count is read once
-reached_nodes : {log : List ℕ} {n p : ℕ} {cut : List Event} → Reached log n p cut → (c : Cursor) × (opening_of log ≡ Nodes n c)
+reached_nodes : {log : List ℕ} {n p : ℕ} {cut : List Event} → Reached log n p cut → (c : Cursor) × (opening_of log ≡ Ok (n, c))
 reached_nodes (reached_first {c = c} e) = (c, e)
 reached_nodes (reached_next before e h) = reached_nodes before
 
@@ -81,18 +81,16 @@ module _ (log : List ℕ) (n : ℕ) where
 
       by_step : (s : Step) → ((r : Record) (c : Cursor) → walk turns log n c.at (event_of r ∷ past) ≡ accepted n cut → (later : List Event) × (cut ≡ later ++ event_of r ∷ past))
           → after_step s n past (λ r q. after_rules (first_broken (rules n past p r)) (walk turns log n q (event_of r ∷ past))) ≡ accepted n cut → Adds
-      by_step End more e = ([], cc)
-      by_step (Unknown q) more e = not_accepted e
-      by_step (Short q) more e = not_accepted e
-      by_step (Read r c) more e = by_rules (first_broken (rules n past p r)) r _ (more r c) e
+      by_step (Ok None) more e = ([], cc)
+      by_step (Err f) more e = not_accepted e
+      by_step (Ok (Some (r, c))) more e = by_rules (first_broken (rules n past p r)) r _ (more r c) e
 
 module _ (log : List ℕ) (n : ℕ) (cut : List Event) (ok : verdict log ≡ accepted n cut) where
   -- each place after a whole record is reached
   ends_reached : {p : ℕ} → Ends log p → (past : List Event) × Reached log n p past
   ends_reached (ends_first {c = c} e) =
       let f = reached_nodes ((verdict_accepted log).0 ok) in
-      let g = f.1 in
-      let same : c ≡ f.0 = cc in
+      let same : c ≡ f.0 = (opened_one log e f.1).1 in
       ([], rw same (reached_first f.1))
   ends_reached (ends_next {p = p} {r = r} {c = c} before e) =
       let a = ends_reached before in

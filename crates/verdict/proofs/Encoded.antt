@@ -13,8 +13,6 @@ use Rattle.order.specs.Order.{Event, idle, mark, send, receipt}
 use Rattle.logs.specs.declared.Cursor.{Cursor}
 use Rattle.logs.specs.declared.Record.{Record}
 use Rattle.logs.specs.declared.Record.TheVariants.{Idle, Mark, Send, Receipt}
-use Rattle.logs.specs.declared.Step.TheVariants.{Read}
-use Rattle.logs.specs.declared.Opening.TheVariants.{Nodes}
 use Rattle.logs.specs.Record.{place, record_at}
 use Rattle.verdict.specs.Verdict.{accepted, event_of, verdict}
 use Rattle.verdict.specs.Table.{Reached, reached_first, reached_next}
@@ -25,6 +23,7 @@ use Rattle.verdict.proofs.Verdict.{verdict_accepted}
 use Rattle.verdict.proofs.Cuts.{reached_same}
 use Rattle.verdict.proofs.Lawfully.{lawful_past, passes_lawful}
 use Rattle.verdict.proofs.Accepted.{accepted_lawful}
+use Rattle.std.specs.Prelude.{Some, Ok}
 
 -- ---- from what was reached to the bytes
 
@@ -50,7 +49,7 @@ module _ (log : List ℕ) (bytes : Bytes log) (p : ℕ) where
   high q r e = let b = bytes r in at_place q (r + 1) e ∙ omega arith
 
   -- the bytes of a record that is read are those of its event
-  read_bytes : {r : Record} {c : Cursor} → Stands log p (Read r c) → (c.at ≡ p + length (record_of (event_of r))) × (take (length (record_of (event_of r))) (drop p log) ≡ record_of (event_of r))
+  read_bytes : {r : Record} {c : Cursor} → Stands log p (Ok (Some (r, c))) → (c.at ≡ p + length (record_of (event_of r))) × (take (length (record_of (event_of r))) (drop p log) ≡ record_of (event_of r))
   read_bytes (stands_idle k h) = (refl, part_is log p _ h (k, (at_place _ _ (omega arith), tt)))
   read_bytes (stands_mark k h) = (refl, part_is log p _ h (k, (at_place _ _ (omega arith), tt)))
   read_bytes (stands_send k h) =
@@ -59,7 +58,7 @@ module _ (log : List ℕ) (bytes : Bytes log) (p : ℕ) where
       (refl, part_is log p _ h (k, (at_place _ _ (omega arith), (low _ (p + 2) (omega arith), (high _ (p + 2) (omega arith), tt)))))
 
 module _ (log : List ℕ) (bytes : Bytes log) where
-  opens_bytes : {n : ℕ} {c : Cursor} → Opens log (Nodes n c) → (c.at ≡ 2) × (take 2 log ≡ 0x10 ∷ n ∷ [])
+  opens_bytes : {n : ℕ} {c : Cursor} → Opens log (Ok (n, c)) → (c.at ≡ 2) × (take 2 log ≡ 0x10 ∷ n ∷ [])
   opens_bytes (opens_nodes a b h k) = (refl, part_is log 0 (0x10 ∷ get_or log 1 0 ∷ []) a (b, (refl, tt)))
 
   -- what was reached gives back the bytes before it
@@ -94,7 +93,7 @@ module _ (xs : List ℕ) where
       → get_or (xs ++ ys) q 0 + 256 * get_or (xs ++ ys) (q + 1) 0 ≡ m
   number_behind ys k q m e l h = omega (arith, behind ys k q e, behind ys (suc k) (q + 1) (omega arith))
 
-  encoded_read : (e : Event) → record_at (xs ++ record_of e) (length xs) ≡ Read (record_for e) (place (length xs + length (record_of e)))
+  encoded_read : (e : Event) → record_at (xs ++ record_of e) (length xs) ≡ Ok (Some (record_for e, place (length xs + length (record_of e))))
   encoded_read (idle i) =
       let ys = record_of (idle i) in
       stands_read (xs ++ ys) (length xs) (stands_idle (behind ys 0 _ (omega arith)) (omega (arith, length-append xs ys)))

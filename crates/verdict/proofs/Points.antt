@@ -10,11 +10,11 @@ use lib.ListN.{length, get_or}
 use Rattle.order.specs.Order.{Event, Flying}
 use Rattle.logs.specs.declared.Cursor.{Cursor}
 use Rattle.logs.specs.declared.Record.{Record}
-use Rattle.logs.specs.declared.Step.TheVariants.{Read}
 use Rattle.logs.specs.Record.{number_at, record_at}
 use Rattle.verdict.specs.Table.{Reached, Breaks, breaks_12, breaks_6, breaks_6_to, breaks_7, breaks_8, breaks_9, breaks_10, breaks_11, Refused, refused_2, refused_3, refused_4, refused_5, refused_rule}
 use Rattle.logs.proofs.Stands.{Kind, Stands, stands, stands_idle, stands_mark, stands_send, stands_receipt, read_forward, unknown_there, short_there, unknown_exactly, short_exactly}
 use Rattle.logs.proofs.FirstRecord.{missing_there, range_there, missing_exactly, range_exactly}
+use Rattle.std.specs.Prelude.{Some, Ok}
 
 -- What the bytes are around the place of a refusal, for the record whose kind byte is at p. The last number is the place.
 pub data Points (log : List ℕ) (n : ℕ) (cut : List Event) (p : ℕ) : ℕ → ℕ → Type 0 where
@@ -34,7 +34,7 @@ pub data Points (log : List ℕ) (n : ℕ) (cut : List Event) (p : ℕ) : ℕ �
   points_11 : {a b s : ℕ} → get_or log p 0 ≡ 0x14 → Flying (number_at log (p + 2)).0 a b cut s → b ≢ get_or log (p + 1) 0 → Points log n cut p 11 (p + 2)
 
 module _ (log : List ℕ) (n : ℕ) (cut : List Event) (p : ℕ) where
-  points : {r : Record} {c : Cursor} {x q : ℕ} → Stands log p (Read r c) → Breaks n cut p r x q → Points log n cut p x q × (q < c.at)
+  points : {r : Record} {c : Cursor} {x q : ℕ} → Stands log p (Ok (Some (r, c))) → Breaks n cut p r x q → Points log n cut p x q × (q < c.at)
   points (stands_idle k h) (breaks_12 a) = (points_12, omega arith)
   points (stands_idle k h) (breaks_6 a b) = (points_6 b, omega arith)
   points (stands_mark k h) (breaks_12 a) = (points_12, omega arith)
@@ -51,7 +51,7 @@ module _ (log : List ℕ) (n : ℕ) (cut : List Event) (p : ℕ) where
   points (stands_receipt k h) (breaks_11 a b f d) = (points_11 k f d, omega arith)
 
   -- a broken rule points at its byte, inside the record
-  pub breaks_point : {r : Record} {c : Cursor} {x q : ℕ} → record_at log p ≡ Read r c → Breaks n cut p r x q
+  pub breaks_point : {r : Record} {c : Cursor} {x q : ℕ} → record_at log p ≡ Ok (Some (r, c)) → Breaks n cut p r x q
       → Points log n cut p x q × (q < c.at)
   breaks_point e b = points (subst (Stands log p) e (stands log p)) b
 

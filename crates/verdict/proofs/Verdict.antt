@@ -2,7 +2,7 @@
 -- what was reached or ends in a row.
 -- Assumes nothing.
 use mathlib.Core.Path.{◌≡◌, refl, sym, ◌∙◌, subst}
-use mathlib.Core.Logic.{◌↔◌}
+use mathlib.Core.Logic.{◌⊎◌, inl, inr, ◌↔◌}
 use mathlib.Core.Bool.{false≢true}
 use mathlib.Core.List.{List, [], ◌∷◌}
 use mathlib.Core.Option.{Option}
@@ -13,18 +13,18 @@ use lib.ListN.{length}
 use Rattle.order.specs.Order.{Event}
 use Rattle.logs.specs.declared.Cursor.{Cursor}
 use Rattle.logs.specs.declared.Record.{Record}
-use Rattle.logs.specs.declared.Step.{Step}
-use Rattle.logs.specs.declared.Step.TheVariants.{Read, End, Unknown, Short}
-use Rattle.logs.specs.declared.Opening.{Opening}
-use Rattle.logs.specs.declared.Opening.TheVariants.{Nodes, Missing, OutOfRange}
 use Rattle.logs.specs.Record.{record_at, opening_of}
 use Rattle.verdict.specs.Verdict.{Verdict, refused, accepted, event_of, Rule, rules, first_broken, after_opening, after_step, after_rules, walk, verdict}
 use Rattle.verdict.specs.Table.{Passes, Reached, reached_first, reached_next, Refused, refused_2, refused_3, refused_4, refused_5, refused_rule, Row, row_accepted, row_refused}
 use Rattle.logs.proofs.Reader.{record_end}
-use Rattle.logs.proofs.Stands.{read_forward, end_there}
-use Rattle.logs.proofs.FirstRecord.{nodes_there}
+use Rattle.logs.proofs.Stands.{read_forward, end_there, refused_there}
+use Rattle.logs.proofs.FirstRecord.{nodes_there, unopened_there}
 use Rattle.verdict.proofs.Rules.{Judged, judged_breaks, judged_passes, judged, breaks_first}
 use Rattle.verdict.proofs.Walk.{reached_walk}
+use Rattle.std.specs.Prelude.{Some, None, Ok, Err}
+use Rattle.logs.specs.declared.Refusal.{Refusal}
+use Rattle.logs.specs.Record.{refusal, number_of, Step, Opening}
+use Rattle.logs.specs.declared.Reason.TheVariants.{NoOpening, NodeCount, UnknownKind, CutShort}
 
 -- what is refused is not accepted
 pub not_accepted : {A : Type 0} {x q n : ℕ} {cut : List Event} → refused x q ≡ accepted n cut → A
@@ -46,18 +46,21 @@ module _ {log : List ℕ} {n p : ℕ} {cut : List Event} (here : Reached log n p
       row_accepted (rw e at here)
 
   -- a record that is read breaks a row or leads on
-  row_rules : {r : Record} {c : Cursor} {o : Option Rule} {v : Verdict} → record_at log p ≡ Read r c → Judged n cut p r o → (Passes n cut r → Row log v)
+  row_rules : {r : Record} {c : Cursor} {o : Option Rule} {v : Verdict} → record_at log p ≡ Ok (Some (r, c)) → Judged n cut p r o → (Passes n cut r → Row log v)
       → Row log (after_rules o v)
   row_rules e (judged_breaks b) more = row_refused (refused_rule here e b)
   row_rules e (judged_passes h) more = more h
 
   row_step : (s : Step) → record_at log p ≡ s → (go : Record → ℕ → Verdict)
-      → ((r : Record) (c : Cursor) → record_at log p ≡ Read r c → Passes n cut r → Row log (go r c.at))
+      → ((r : Record) (c : Cursor) → record_at log p ≡ Ok (Some (r, c)) → Passes n cut r → Row log (go r c.at))
       → Row log (after_step s n cut (λ r q. after_rules (first_broken (rules n cut p r)) (go r q)))
-  row_step End e go more = row_here (end_there log p e)
-  row_step (Unknown q) e go more = row_refused (refused_4 here e)
-  row_step (Short q) e go more = row_refused (refused_5 here e)
-  row_step (Read r c) e go more = row_rules e (judged n cut p r) (more r c e)
+  row_step (Ok None) e go more = row_here (end_there log p e)
+  row_step (Err f) e go more = by_reason (refused_there log p e)
+    where
+      by_reason : (f ≡ refusal UnknownKind p) ⊎ (f ≡ refusal CutShort p) → Row log (refused (number_of f.reason) f.place)
+      by_reason (inl h) = rw h (row_refused (refused_4 here (rw h at e)))
+      by_reason (inr h) = rw h (row_refused (refused_5 here (rw h at e)))
+  row_step (Ok (Some (r, c))) e go more = row_rules e (judged n cut p r) (more r c e)
 
 module _ (log : List ℕ) where
   -- from a place that was reached, enough turns come to a row
@@ -73,10 +76,13 @@ module _ (log : List ℕ) where
   unfolding verdict
   verdict_row = go (opening_of log) refl
     where
+      by_reason : {f : Refusal} → opening_of log ≡ Err f → (f ≡ refusal NoOpening 0) ⊎ (f ≡ refusal NodeCount 1) → Row log (refused (number_of f.reason) f.place)
+      by_reason e (inl h) = rw h (row_refused (refused_2 (rw h at e)))
+      by_reason e (inr h) = rw h (row_refused (refused_3 (rw h at e)))
+
       go : (o : Opening) → opening_of log ≡ o → Row log (after_opening o (λ n p. walk (length log) log n p []))
-      go (Missing q) e = row_refused (refused_2 e)
-      go (OutOfRange q) e = row_refused (refused_3 e)
-      go (Nodes n c) e = walk_row (length log) n c.at [] (omega arith) (reached_first e)
+      go (Err f) e = by_reason e (unopened_there log e)
+      go (Ok (n, c)) e = walk_row (length log) n c.at [] (omega arith) (reached_first e)
 
   -- ---- and the row is the verdict
 

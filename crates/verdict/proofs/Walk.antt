@@ -9,22 +9,21 @@ use lib.ListN.{length}
 use Rattle.order.specs.Order.{Event}
 use Rattle.logs.specs.declared.Cursor.{Cursor}
 use Rattle.logs.specs.declared.Record.{Record}
-use Rattle.logs.specs.declared.Step.{Step}
-use Rattle.logs.specs.declared.Step.TheVariants.{Read, End, Unknown, Short}
 use Rattle.logs.specs.Record.{record_at}
 use Rattle.verdict.specs.Verdict.{Verdict, accepted, event_of, rules, first_broken, after_step, after_rules, walk, verdict}
 use Rattle.verdict.specs.Table.{Passes, Reached, reached_first, reached_next}
 use Rattle.logs.proofs.Reader.{record_end}
 use Rattle.logs.proofs.Stands.{read_forward}
 use Rattle.verdict.proofs.Rules.{passes_first}
+use Rattle.std.specs.Prelude.{Some, None, Ok, Err}
+use Rattle.logs.specs.Record.{Step}
 
 -- what follows a step depends on what is done with the record that it read
-step_same : (s : Step) (n : ℕ) (cut : List Event) (f g : Record → ℕ → Verdict) → ((r : Record) (c : Cursor) → s ≡ Read r c → f r c.at ≡ g r c.at)
+step_same : (s : Step) (n : ℕ) (cut : List Event) (f g : Record → ℕ → Verdict) → ((r : Record) (c : Cursor) → s ≡ Ok (Some (r, c)) → f r c.at ≡ g r c.at)
     → after_step s n cut f ≡ after_step s n cut g
-step_same End n cut f g h = refl
-step_same (Unknown p) n cut f g h = refl
-step_same (Short p) n cut f g h = refl
-step_same (Read r c) n cut f g h = h r c refl
+step_same (Ok None) n cut f g h = refl
+step_same (Err f') n cut f g h = refl
+step_same (Ok (Some (r, c))) n cut f g h = h r c refl
 
 -- behind the log nothing is read
 walk_end : (turns : ℕ) (log : List ℕ) (n p : ℕ) (cut : List Event) → length log ≤ p → walk turns log n p cut ≡ accepted n cut
@@ -44,7 +43,7 @@ walk_turns (suc t) (suc u) log n p cut h k =
 
 module _ (log : List ℕ) (n : ℕ) where
   -- a record that passes is one turn
-  walk_next : (turns p : ℕ) (cut : List Event) (r : Record) (c : Cursor) → record_at log p ≡ Read r c → Passes n cut r
+  walk_next : (turns p : ℕ) (cut : List Event) (r : Record) (c : Cursor) → record_at log p ≡ Ok (Some (r, c)) → Passes n cut r
       → walk (suc turns) log n p cut ≡ walk turns log n c.at (event_of r ∷ cut)
   unfolding walk
   walk_next turns p cut r c e h = rw (e, passes_first n cut p r h)

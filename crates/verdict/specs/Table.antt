@@ -1,7 +1,7 @@
 -- 01's table "Refusal numbers", row by row, as facts about the log. proofs/Verdict.antt shows that the verdict is just
 -- this: one row of the table, and no two at once.
 -- Assumes nothing.
-use Rattle.std.specs.Prelude.{◌≡◌, ◌≢◌, List, [], ◌∷◌, ℕ, ◌+◌, ◌<◌, ◌≤◌, length}
+use Rattle.std.specs.Prelude.{◌≡◌, ◌≢◌, List, [], ◌∷◌, ℕ, ◌+◌, ◌<◌, ◌≤◌, length, Some, Ok, Err}
 use Rattle.order.specs.Order.{Event, idle, mark, send, receipt, node_of, Flying, Allowed}
 use Rattle.order.specs.Flight.{in_flight}
 use Rattle.logs.specs.declared.Node.{Node}
@@ -9,10 +9,9 @@ use Rattle.logs.specs.declared.MessageNumber.{MessageNumber}
 use Rattle.logs.specs.declared.Cursor.{Cursor}
 use Rattle.logs.specs.declared.Record.{Record}
 use Rattle.logs.specs.declared.Record.TheVariants.{Send, Receipt}
-use Rattle.logs.specs.declared.Step.TheVariants.{Read, Unknown, Short}
-use Rattle.logs.specs.declared.Opening.TheVariants.{Nodes, Missing, OutOfRange}
-use Rattle.logs.specs.Record.{record_at, opening_of}
+use Rattle.logs.specs.Record.{refusal, record_at, opening_of}
 use Rattle.verdict.specs.Verdict.{Verdict, refused, accepted, event_of}
+use Rattle.logs.specs.declared.Reason.TheVariants.{NoOpening, NodeCount, UnknownKind, CutShort}
 
 -- The whole record at place p, for n nodes after the events of cut, breaks the rule of this number, and none that is tested
 -- before it: 12, 6 (sender first), 7, 8, 9, 10, 11. The last number is the refusal's place.
@@ -51,28 +50,28 @@ Passes n cut r = (length cut < 4096) × Allowed n cut (event_of r) × Space cut 
 
 -- Every record before place p of the log is whole and passes; they are those of the cut, for n nodes.
 pub data Reached (log : List ℕ) (n : ℕ) : ℕ → List Event → Type 0 where
-  reached_first : {c : Cursor} → opening_of log ≡ Nodes n c → Reached log n c.at []
+  reached_first : {c : Cursor} → opening_of log ≡ Ok (n, c) → Reached log n c.at []
   reached_next : {p : ℕ} {cut : List Event} {r : Record} {c : Cursor}
-      → Reached log n p cut → record_at log p ≡ Read r c → Passes n cut r → Reached log n c.at (event_of r ∷ cut)
+      → Reached log n p cut → record_at log p ≡ Ok (Some (r, c)) → Passes n cut r → Reached log n c.at (event_of r ∷ cut)
 
 -- a whole record ends just before place p of the log
 pub data Ends (log : List ℕ) : ℕ → Type 0 where
-  ends_first : {n : ℕ} {c : Cursor} → opening_of log ≡ Nodes n c → Ends log c.at
-  ends_next : {p : ℕ} {r : Record} {c : Cursor} → Ends log p → record_at log p ≡ Read r c → Ends log c.at
+  ends_first : {n : ℕ} {c : Cursor} → opening_of log ≡ Ok (n, c) → Ends log c.at
+  ends_next : {p : ℕ} {r : Record} {c : Cursor} → Ends log p → record_at log p ≡ Ok (Some (r, c)) → Ends log c.at
 
 -- a row of the table: the log is refused with this number at this place
 pub data Refused (log : List ℕ) : ℕ → ℕ → Type 0 where
   -- no whole 0x10 record at the start
-  refused_2 : {q : ℕ} → opening_of log ≡ Missing q → Refused log 2 q
+  refused_2 : {q : ℕ} → opening_of log ≡ Err (refusal NoOpening q) → Refused log 2 q
   -- node count 0 or above 32
-  refused_3 : {q : ℕ} → opening_of log ≡ OutOfRange q → Refused log 3 q
+  refused_3 : {q : ℕ} → opening_of log ≡ Err (refusal NodeCount q) → Refused log 3 q
   -- unknown kind, or a later 0x10
-  refused_4 : {n p q : ℕ} {cut : List Event} → Reached log n p cut → record_at log p ≡ Unknown q → Refused log 4 q
+  refused_4 : {n p q : ℕ} {cut : List Event} → Reached log n p cut → record_at log p ≡ Err (refusal UnknownKind q) → Refused log 4 q
   -- record cut short
-  refused_5 : {n p q : ℕ} {cut : List Event} → Reached log n p cut → record_at log p ≡ Short q → Refused log 5 q
+  refused_5 : {n p q : ℕ} {cut : List Event} → Reached log n p cut → record_at log p ≡ Err (refusal CutShort q) → Refused log 5 q
   -- a rule broken by a whole record
   refused_rule : {n p x q : ℕ} {cut : List Event} {r : Record} {c : Cursor}
-      → Reached log n p cut → record_at log p ≡ Read r c → Breaks n cut p r x q → Refused log x q
+      → Reached log n p cut → record_at log p ≡ Ok (Some (r, c)) → Breaks n cut p r x q → Refused log x q
 
 -- the verdict that the table gives: a refusal of one of its rows, or row 0, where every record of the log passes
 pub data Row (log : List ℕ) : Verdict → Type 0 where

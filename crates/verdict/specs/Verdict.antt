@@ -1,17 +1,13 @@
 -- The verdict on a whole log, of its bytes alone: the first refusal of 01's table "Refusal numbers", or the node count and
 -- the events. It computes. The records are read by the reader's promise, one after the other from the front.
 -- Assumes nothing.
-use Rattle.std.specs.Prelude.{Bool, cond, not, ◌&&◌, ◌||◌, false, List, [], ◌∷◌, ℕ, zero, suc, ◌+◌, eqb, leb, length}
+use Rattle.std.specs.Prelude.{Bool, cond, not, ◌&&◌, ◌||◌, false, List, [], ◌∷◌, ℕ, zero, suc, ◌+◌, eqb, leb, length, Some, None, Ok, Err}
 use Rattle.std.proofs.Math.Option.{Option, none, some}
 use Rattle.order.specs.Order.{Event, idle, mark, send, receipt}
 use Rattle.order.specs.Flight.{Message, in_flight}
 use Rattle.logs.specs.declared.Record.{Record}
 use Rattle.logs.specs.declared.Record.TheVariants.{Idle, Mark, Send, Receipt}
-use Rattle.logs.specs.declared.Step.{Step}
-use Rattle.logs.specs.declared.Step.TheVariants.{Read, End, Unknown, Short}
-use Rattle.logs.specs.declared.Opening.{Opening}
-use Rattle.logs.specs.declared.Opening.TheVariants.{Nodes, Missing, OutOfRange}
-use Rattle.logs.specs.Record.{record_at, opening_of}
+use Rattle.logs.specs.Record.{number_of, Step, Opening, record_at, opening_of}
 
 -- refused with a number and a place; or accepted, with the node count and the events, the latest first
 pub data Verdict : Type 0 where
@@ -86,17 +82,15 @@ first_broken (r ∷ rs) = cond r.broken (some r) (first_broken rs)
 
 -- ---- the walk over the records
 
--- what follows each answer of the reader, with the number of each that is a refusal
+-- what follows each answer of the reader; a refusal has its reason's number
 abbrev pub after_opening : Opening → (ℕ → ℕ → Verdict) → Verdict
-after_opening (Missing p) go = refused 2 p
-after_opening (OutOfRange p) go = refused 3 p
-after_opening (Nodes n c) go = go n c.at
+after_opening (Err f) go = refused (number_of f.reason) f.place
+after_opening (Ok (n, c)) go = go n c.at
 
 abbrev pub after_step : Step → ℕ → List Event → (Record → ℕ → Verdict) → Verdict
-after_step End n cut go = accepted n cut
-after_step (Unknown p) n cut go = refused 4 p
-after_step (Short p) n cut go = refused 5 p
-after_step (Read r c) n cut go = go r c.at
+after_step (Ok None) n cut go = accepted n cut
+after_step (Err f) n cut go = refused (number_of f.reason) f.place
+after_step (Ok (Some (r, c))) n cut go = go r c.at
 
 abbrev pub after_rules : Option Rule → Verdict → Verdict
 after_rules (some r) rest = refused r.number r.place

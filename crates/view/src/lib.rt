@@ -8,7 +8,7 @@ ghost use Rattle.reading.specs.Reading.{count_at, past_count};
 ghost use Rattle.shape.specs.Shape.{group_seen};
 
 use reading::Count;
-use shape::Group;
+use shape::{BadGroup, Mark};
 
 // A report, and the place that is reached in it.
 #[derive(Clone, Copy)]
@@ -25,8 +25,8 @@ impl<'a> View<'a> {
         View { report, at }
     }
 
-    // The group at the place that the view has reached.
-    pub fn read(self) -> Group
+    // What stands at the place that the view has reached, as shape's look answers.
+    pub fn read(self) -> Result<Option<(Mark, usize)>, BadGroup>
         ensures { result ≡ group_seen self.entry.report.now self.entry.at }
     {
         shape::look(self.report, self.at)
@@ -51,8 +51,8 @@ impl<'a> View<'a> {
     }
 }
 
-// The group at a place of a report, through a view.
-pub fn group(report: &[u8], at: usize) -> Group
+// What stands at a place of a report, as shape's look answers, through a view.
+pub fn group(report: &[u8], at: usize) -> Result<Option<(Mark, usize)>, BadGroup>
     ensures { result ≡ group_seen report.now at }
 {
     View::over(report, at).read()

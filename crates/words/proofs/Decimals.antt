@@ -36,6 +36,9 @@ decimal_more n h = rw (le-ltb n 10 h) (ap (λ (l : List ℕ). l ++ (digit (n % 1
 pub decimal_longer : (n : ℕ) → 10 ≤ n → length (decimal n) ≡ length (decimal (n / 10)) + 1
 decimal_longer n h = ap length (decimal_more n h) ∙ length-append (decimal (n / 10)) (digit (n % 10) ∷ [])
 
+-- what laying a number digit by digit goes by
+pub ruleset decimals = (decimal_one, decimal_more, decimal_longer)
+
 -- a number below a power of ten has no more digits than that power
 digits_bound : (k most n : ℕ) → n < 10 ^ suc k → length (digits most n) ≤ suc k
 unfolding digits

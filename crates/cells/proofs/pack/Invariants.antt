@@ -1,13 +1,10 @@
 -- `cells::pack` meets its contract: its record, taken at k, is the loop's invariant.
 use mathlib.Core.Path.{◌≡◌}
-use Prim.Native.Nat.{◌≤◌, ◌-◌}
+use Prim.Native.Nat.{◌≤◌}
 use lib.ListN.{length}
 use Rattle.cells.specs.Cells.{Packed}
 use Rattle.cells.proofs.pack.Given as goal
 
 abbrev pub invariant-loop-k : goal.invariant-loop-k
 invariant-loop-k l =
-    (l.k ≤ length l.row) × (length l.letter ≡ length l.row) × (l.carried ≤ l.k) × Packed l.spared l.row l.columns l.flags l.k l.letter l.carried
-
-abbrev pub decreases-loop-k : goal.decreases-loop-k
-decreases-loop-k l = length l.row - l.k
+    (length l.letter ≡ length l.row) × (l.carried ≤ l.k) × Packed l.spared l.row l.columns l.flags l.k l.letter l.carried

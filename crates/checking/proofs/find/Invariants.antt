@@ -5,9 +5,7 @@ use Rattle.checking.proofs.Walking.{Walking}
 use Rattle.checking.proofs.find.Given as goal
 
 abbrev pub invariant-loop-mark : goal.invariant-loop-mark
-invariant-loop-mark l =
-    Walking l.report l.first l.second l.greatest l.groups l.at l.first_at l.second_at
+invariant-loop-mark l = Walking l.report l.first l.second l.greatest l.survey.groups l.at l.survey.first l.survey.second
 
 abbrev pub decreases-loop-mark : goal.decreases-loop-mark
-decreases-loop-mark l =
-    length l.report - l.at
+decreases-loop-mark l = length l.report - l.at

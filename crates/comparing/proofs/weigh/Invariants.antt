@@ -1,10 +1,6 @@
 -- `comparing::weigh` meets its contract: count by count it is noted which stamp has the greater one, and the two notes decide.
-use Prim.Native.Nat.{◌-◌}
 use Rattle.comparing.proofs.Weighing.{Weighed}
 use Rattle.comparing.proofs.weigh.Given as goal
 
 abbrev pub invariant-loop-k : goal.invariant-loop-k
 invariant-loop-k l = Weighed l.report l.first l.second l.k l.one l.other l.more l.less
-
-abbrev pub decreases-loop-k : goal.decreases-loop-k
-decreases-loop-k l = 32 - l.k

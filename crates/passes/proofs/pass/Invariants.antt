@@ -8,7 +8,7 @@ use Rattle.passes.proofs.pass.Given as goal
 
 abbrev pub invariant-loop-next : goal.invariant-loop-next
 invariant-loop-next l =
-    (cut : List Event) × Stands l.mode l.log l.nodes l.cursor.at cut l.fn.report l.counts l.words l.mail l.report l.tally
+    (cut : List Event) × Stands l.course.mode l.course.log.now l.course.nodes l.cursor.at cut l.fn.report l.counts l.words l.mail l.report l.tally
 
 abbrev pub decreases-loop-next : goal.decreases-loop-next
-decreases-loop-next l = length l.log - l.cursor.at
+decreases-loop-next l = length l.course.log.now - l.cursor.at

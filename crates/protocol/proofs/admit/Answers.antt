@@ -5,4 +5,4 @@ use native.Mathlib.Omega.{arith}
 use Rattle.protocol.proofs.admit.Goals as goal
 
 pub returns-then-events-ge4096 : goal.returns-then-events-ge4096
-returns-then-events-ge4096 c = λ cut many mail. refuses (breaks_12 (omega arith))
+returns-then-events-ge4096 c = λ cut many mail. rw c.at.ensures (refuses (breaks_12 (omega arith)))

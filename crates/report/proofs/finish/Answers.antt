@@ -7,8 +7,8 @@ pub returns-then-report-bytes : goal.returns-then-report-bytes
 returns-then-report-bytes c =
     settles_overlong c.requires.looked c.if-report-bytes.true c.requires.zero
 
-pub pass-requires-clause-holds : goal.pass-requires-clause-holds
-pass-requires-clause-holds c = zero_holds c.args.mode c.requires.zero
+pub pass-requires : goal.pass-requires
+pass-requires c = zero_holds c.args.course.now.mode c.requires.zero
 
 pub returns : goal.returns
 returns c =

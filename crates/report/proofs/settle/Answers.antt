@@ -2,7 +2,7 @@
 use Rattle.report.proofs.Endings.{settles_refused}
 use Rattle.report.proofs.settle.Goals as goal
 
-pub returns-in-Halted : goal.returns-in-Halted
-returns-in-Halted c =
-    let l = c.look-passed.ensures in
-    rw l.report_unchanged (settles_refused c.in-Halted.ensures.looked l.zero_again)
+pub returns-in-Err : goal.returns-in-Err
+returns-in-Err c =
+    let l = c.look.ensures in
+    rw (c.from.ensures, l.report_unchanged) (settles_refused c.in-Err.ensures.looked l.zero_again)

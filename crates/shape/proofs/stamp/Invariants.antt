@@ -5,8 +5,8 @@ use lib.ListN.{length}
 use Rattle.shape.proofs.StampPassed.{Passed}
 use Rattle.shape.proofs.stamp.Given as goal
 
-abbrev pub invariant-loop-at : goal.invariant-loop-at
-invariant-loop-at l = Passed l.report l.at l.node l.place l.low l.own
+abbrev pub invariant-loop-low : goal.invariant-loop-low
+invariant-loop-low l = Passed l.report l.at l.mark.node.0 l.place l.low l.own.0
 
-abbrev pub decreases-loop-at : goal.decreases-loop-at
-decreases-loop-at l = length l.report - l.place
+abbrev pub decreases-loop-low : goal.decreases-loop-low
+decreases-loop-low l = length l.report - l.place

@@ -1,18 +1,14 @@
--- `text::causes` meets its contract: what is laid so far and what is still to be laid are the whole.
-use mathlib.Core.Path.{◌∙◌}
+-- `text::causes` meets its contract: after k turns the first k direct predecessors are laid.
 use native.Mathlib.Omega.{arith}
-use Rattle.text.proofs.Turns.{owing_less, owing_none, causes_empty, causes_first}
+use Rattle.groups.proofs.Laying.{none_laid}
+use Rattle.reading.specs.Reading.{causes_at}
+use Rattle.text.specs.Text.{causes_text}
+use Rattle.text.proofs.Turns.{causes_more}
 use Rattle.text.proofs.causes.Goals as goal
 
-pub loop-left-preserved : goal.loop-left-preserved
-loop-left-preserved c =
-    let l = c.loop-left in
-    let laid = c.cause-write in (
-      omega arith,
-      laid.auto.room ∙ l.invariant.1,
-      omega arith,
-      owing_less _ _ (causes_first _ _ _ c.loop-left-test.true) l.invariant.3 laid.ensures.laid,
-    )
+pub loop-k-init : goal.loop-k-init
+unfolding causes_at causes_text
+loop-k-init c = (omega arith, none_laid _ _ (omega arith))
 
-pub returns-clause-laid : goal.returns-clause-laid
-returns-clause-laid c = owing_none (causes_empty _ _ _ c.loop-left-test.false) c.loop-left.invariant.3
+pub loop-k-preserved : goal.loop-k-preserved
+loop-k-preserved c = (omega arith, causes_more _ _ _ c.loop-k.invariant.1 c.cause-write.ensures.laid)

@@ -1,7 +1,6 @@
--- `text::counts` meets its contract: after k turns the counts of the nodes below k are laid.
+-- `text::counts` meets its contract: after k turns the counts of the first k nodes are laid.
 use mathlib.Core.Path.{◌≡◌}
-use Prim.Native.Nat.{◌+◌, ◌*◌, ◌-◌, ◌≤◌}
-use lib.ListN.{length}
+use Prim.Native.Nat.{◌+◌, ◌*◌, ◌≤◌}
 use Rattle.groups.specs.Groups.{Laid}
 use Rattle.reading.specs.Reading.{stamp_place, stamp_at}
 use Rattle.text.specs.Text.{stamp_text}
@@ -9,8 +8,5 @@ use Rattle.text.proofs.counts.Given as goal
 
 abbrev pub invariant-loop-k : goal.invariant-loop-k
 invariant-loop-k l =
-    (l.k ≤ l.nodes) × (l.read ≤ length l.report) × (l.read ≡ stamp_place l.report l.place l.k) × (length l.room ≡ length l.fn.room) × (l.write ≤ l.at + 6 * l.k)
+    (l.read ≡ stamp_place l.report l.place l.k) × (l.write ≤ l.at + 6 * l.k)
     × Laid l.at (stamp_text l.k (stamp_at l.report l.place)) l.fn.room l.room l.write
-
-abbrev pub decreases-loop-k : goal.decreases-loop-k
-decreases-loop-k l = l.nodes - l.k

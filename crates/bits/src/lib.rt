@@ -1,4 +1,5 @@
 // Words of flags: a flag for each of up to 32 nodes, in one u32.
+// kept: that an index is below 32 is asked for at each call; a type that says it would be made anew for every index of a loop.
 #![tactic(auto)]
 
 ghost use Rattle.std.specs.Prelude.{◌≡◌, true, false, ◌<◌, ◌^◌};

@@ -1,4 +1,5 @@
 // A node's cells, one for each node: what a message says of them, and what a letter makes of them.
+// kept: a row, its columns and its flags are three parts and go in step by an index, as they lie in the lent rooms (docs/LAYOUT.md).
 #![tactic(auto)]
 
 ghost use Rattle.std.specs.Prelude.{◌≡◌, ℕ, ◌<◌, ◌≤◌, length, get_or, IfSome};

@@ -50,6 +50,7 @@ fn mode_of(number: u32) -> Option<Mode>
 }
 
 // Tells the place and the totals, and returns the number.
+// kept: 01's numbers here and in `hatsuvren_compare`, since a caller from C is told numbers.
 fn tell(number: u8, place: usize, tally: Tally, told: &mut [usize; 6]) -> u8
     ensures { (result ≡ number) × (told.new ≡ told_of place tally) }
 {

@@ -1,4 +1,6 @@
 // The step of a mark on the work room.
+// kept: two slices and no WorkRoom, which would ask for a mail too; and what is asked of the node count stands at each step, since each
+// is promised alone.
 #![tactic(auto)]
 
 ghost use Rattle.std.specs.Prelude.{◌≡◌, List, ℕ, suc, ◌≤◌, ◌<◌, length, get_or, set};

@@ -1,17 +1,20 @@
 // One pass over the records of a log: the work room follows them, the report is written where its room has space for it.
 #![tactic(auto)]
 
-ghost use Rattle.std.specs.Prelude.{◌≡◌, List, [], ◌∷◌, ℕ, ◌^◌, ◌<◌, Ok};
+ghost use Rattle.std.specs.Prelude.{◌≡◌, List, [], ◌∷◌, ℕ, ◌+◌, ◌^◌, ◌<◌, length, Ok};
 ghost use Rattle.order.specs.Order.{Event};
 ghost use Rattle.logs.specs.Record.{opening_of};
 ghost use Rattle.verdict.specs.Verdict.{event_of};
 ghost use Rattle.room.specs.Room.{barn, Holds};
+ghost use Rattle.room.specs.Finding.{Mailed};
+ghost use Rattle.room.specs.Work.{Same};
+ghost use Rattle.protocol.specs.Admission.{Judges};
 ghost use Rattle.steps.specs.Steps.{Ready};
 ghost use Rattle.groups.specs.Groups.{Written};
 ghost use Rattle.passes.specs.Pass.{Noted, Stands, Turned, Passing, group_by, counted, Small};
 
 use logs::{Cursor, Record, Refusal};
-use room::Mode;
+use room::{Mode, WorkRoom};
 
 // What a run counts.
 #[derive(Clone, Copy, Default, PartialEq, Eq)]
@@ -38,18 +41,18 @@ pub struct Course<'a> {
 // Runs the records of the log from the place past the first record on.
 pub fn pass(
     course: &Course<'_>,
-    counts: &mut [u16],
-    words: &mut [u32],
-    mail: &mut [u16],
+    room: &mut WorkRoom<'_>,
     report: &mut [u8],
 ) -> Result<Tally, Refusal>
-    requires { Holds course.now.nodes (barn course.now.mode []) counts.old words.old mail.old }
-    ensures { Passing course.now.mode course.now.log.now course.now.nodes report.old
-        counts.new words.new mail.new report.new result }
+    requires { Holds course.now.nodes (barn course.now.mode [])
+        room.old.counts.now room.old.words.now room.old.mail.now }
+    ensures same { Same room.old room.new }
+    ensures passing { Passing course.now.mode course.now.log.now course.now.nodes report.old
+        room.new.counts.now room.new.words.now room.new.mail.now report.new result }
 {
     let mut cursor = course.first;
     let mut tally = Tally::default();
-    while let Some((next, sum)) = take_turn(course, cursor, tally, counts, words, mail, report)? {
+    while let Some((next, sum)) = take_turn(course, cursor, tally, room, report)? {
         cursor = next;
         tally = sum;
     }
@@ -62,25 +65,41 @@ fn take_turn(
     course: &Course<'_>,
     cursor: Cursor,
     tally: Tally,
-    counts: &mut [u16],
-    words: &mut [u32],
-    mail: &mut [u16],
+    room: &mut WorkRoom<'_>,
     report: &mut [u8],
 ) -> Result<Option<(Cursor, Tally)>, Refusal>
-    requires { (cut : List Event) × (room : List ℕ)
-        × Stands course.now.mode course.now.log.now course.now.nodes cursor.at cut room counts.old words.old mail.old report.old tally }
-    ensures { (cut : List Event) (room : List ℕ)
-        → Stands course.now.mode course.now.log.now course.now.nodes cursor.at cut room
-        counts.old words.old mail.old report.old tally
-        → Turned course.now.mode course.now.log.now course.now.nodes cursor.at cut room
-        counts.new words.new mail.new report.new tally result }
+    requires { (cut : List Event) × (blank : List ℕ)
+        × Stands course.now.mode course.now.log.now course.now.nodes cursor.at cut blank
+        room.old.counts.now room.old.words.now room.old.mail.now report.old tally }
+    ensures same { Same room.old room.new }
+    ensures turned { (cut : List Event) (blank : List ℕ)
+        → Stands course.now.mode course.now.log.now course.now.nodes cursor.at cut blank
+        room.old.counts.now room.old.words.now room.old.mail.now report.old tally
+        → Turned course.now.mode course.now.log.now course.now.nodes cursor.at cut blank
+        room.new.counts.now room.new.words.now room.new.mail.now report.new tally result }
 {
     let Some((event, next)) = cursor.step(course.log)? else {
         return Ok(None);
     };
-    let slot = protocol::admit(event, cursor.at, tally.events, course.nodes, mail)?;
-    let sum = advance(course, event, slot, tally, counts, words, mail, report);
+    let slot = judge(course, event, cursor, tally, room)?;
+    let sum = advance(course, event, slot, tally, room, report);
     Ok(Some((next, sum)))
+}
+
+// The slot of a record's message, if the record may go. The room is only looked at.
+fn judge(
+    course: &Course<'_>,
+    event: Record,
+    cursor: Cursor,
+    tally: Tally,
+    room: &WorkRoom<'_>,
+) -> Result<usize, Refusal>
+    requires at_bound { cursor.at + 3 < 2 ^ 64 }
+    requires cut_mailed { (cut : List Event) × (length cut ≡ tally.events) × Mailed course.now.nodes cut room.now.mail.now }
+    ensures { (cut : List Event) → length cut ≡ tally.events → Mailed course.now.nodes cut room.now.mail.now
+        → Judges course.now.nodes cut cursor.at event result }
+{
+    protocol::admit(event, cursor.at, tally.events, course.nodes, room.mail)
 }
 
 // Writes the group of a mark, applies a record that was admitted, and counts it.
@@ -89,39 +108,34 @@ fn advance(
     event: Record,
     slot: usize,
     tally: Tally,
-    counts: &mut [u16],
-    words: &mut [u32],
-    mail: &mut [u16],
+    room: &mut WorkRoom<'_>,
     report: &mut [u8],
 ) -> Tally
-    requires { (cut : List Event) × (room : List ℕ)
-        × Ready course.now.mode course.now.nodes cut (event_of event) slot counts.old words.old mail.old
-        × Noted course.now.mode course.now.nodes cut room counts.old words.old mail.old report.old tally }
-    ensures { (cut : List Event) (room : List ℕ)
-        → Ready course.now.mode course.now.nodes cut (event_of event) slot counts.old words.old mail.old
-        → Noted course.now.mode course.now.nodes cut room
-        counts.old words.old mail.old report.old tally
-        → Noted course.now.mode course.now.nodes (event_of event ∷ cut) room
-        counts.new words.new mail.new report.new result }
+    requires { (cut : List Event) × (blank : List ℕ)
+        × Ready course.now.mode course.now.nodes cut (event_of event) slot
+        room.old.counts.now room.old.words.now room.old.mail.now
+        × Noted course.now.mode course.now.nodes cut blank
+        room.old.counts.now room.old.words.now room.old.mail.now report.old tally }
+    ensures same { Same room.old room.new }
+    ensures noted { (cut : List Event) (blank : List ℕ)
+        → Ready course.now.mode course.now.nodes cut (event_of event) slot
+        room.old.counts.now room.old.words.now room.old.mail.now
+        → Noted course.now.mode course.now.nodes cut blank
+        room.old.counts.now room.old.words.now room.old.mail.now report.old tally
+        → Noted course.now.mode course.now.nodes (event_of event ∷ cut) blank
+        room.new.counts.now room.new.words.now room.new.mail.now report.new result }
 {
-    let bytes = show(event, course.nodes, tally.bytes, counts, words, report);
-    let carried = protocol::apply(course.mode, event, slot, course.nodes, counts, words, mail);
+    let bytes = show(event, course.nodes, tally.bytes, room, report);
+    let carried = protocol::apply(course.mode, event, slot, course.nodes, room);
     count(event, carried, bytes, tally)
 }
 
 // Writes the group of a record that is a mark at a place of the report, where there is space. How many bytes it has comes back.
-fn show(
-    event: Record,
-    nodes: usize,
-    at: usize,
-    counts: &[u16],
-    words: &[u32],
-    report: &mut [u8],
-) -> usize
+fn show(event: Record, nodes: usize, at: usize, room: &WorkRoom<'_>, report: &mut [u8]) -> usize
     requires { (mode : Mode) × (cut : List Event) × (slot : ℕ) × (mail : List ℕ)
-        × Ready mode nodes cut (event_of event) slot counts.now words.now mail }
+        × Ready mode nodes cut (event_of event) slot room.now.counts.now room.now.words.now mail }
     ensures { (mode : Mode) (cut : List Event) (slot : ℕ) (mail : List ℕ)
-        → Ready mode nodes cut (event_of event) slot counts.now words.now mail
+        → Ready mode nodes cut (event_of event) slot room.now.counts.now room.now.words.now mail
         → Written at (group_by nodes cut (event_of event)) report.old report.new result }
 {
     let Record::Mark(node) = event else {
@@ -130,9 +144,9 @@ fn show(
     let i = node.0 as usize;
     let row = nodes * i;
     let row_end = row + nodes;
-    let flags = words[i];
+    let flags = room.words[i];
     let from = room::within(at, report.len());
-    groups::group(node, &counts[row..row_end], flags, &mut report[from..])
+    groups::group(node, &room.counts[row..row_end], flags, &mut report[from..])
 }
 
 // The totals with a record more.

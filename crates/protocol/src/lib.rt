@@ -1,17 +1,21 @@
 // The protocol, record by record: whether a record may go, and what it does to the work room.
+// kept: place, node count and mail go from `admit` to each of its parts with what it asks of them; a struct would be made for that
+// one call.
 #![tactic(auto)]
 
 ghost use Rattle.std.specs.Prelude.{◌≡◌, List, ◌+◌, ◌^◌, ◌<◌, ◌≤◌, length, MatchResult};
-ghost use Rattle.order.specs.Order.{Event};
+ghost use Rattle.order.specs.Order.{Event, send};
 ghost use Rattle.logs.specs.declared.Record.TheVariants.{Idle, Mark, Send, Receipt};
 ghost use Rattle.logs.specs.Record.{refusal};
 ghost use Rattle.verdict.specs.Verdict.{event_of};
 ghost use Rattle.steps.specs.Steps.{Ready, Follows};
 ghost use Rattle.room.specs.Finding.{Mailed};
+ghost use Rattle.room.specs.Work.{Same};
 ghost use Rattle.protocol.specs.Admission.{Judges};
 
 use logs::{MessageNumber, Node, Reason, Record, Refusal};
-use room::{Mode, mail};
+use room::{Mode, WorkRoom, mail};
+use sends::Letter;
 
 // Whether the record at this place of the log may go after so many events. If so, the slot where its message lies, or is to lie,
 // comes back.
@@ -110,33 +114,52 @@ fn admit_receipt(
 }
 
 // Applies an admitted record, with its slot, to the work room. How many entries it carries comes back.
-pub fn apply(
+pub fn apply(mode: Mode, event: Record, slot: usize, nodes: usize, room: &mut WorkRoom<'_>) -> usize
+    requires { (cut : List Event) × Ready mode nodes cut (event_of event) slot
+        room.old.counts.now room.old.words.now room.old.mail.now }
+    ensures same { Same room.old room.new }
+    ensures follows { Follows mode nodes (event_of event) slot
+        room.old.counts.now room.old.words.now room.old.mail.now
+        room.new.counts.now room.new.words.now room.new.mail.now result }
+{
+    match event {
+        Record::Idle(_) => 0,
+        Record::Mark(node) => {
+            marks::mark(node, nodes, room.counts, room.words);
+            0
+        }
+        Record::Send(from, to, number) => {
+            let letter = Letter {
+                from,
+                to,
+                number,
+                slot,
+            };
+            send(mode, letter, nodes, room.counts, room.words, room.mail)
+        }
+        Record::Receipt(node, _) => {
+            receipts::receipt(node, slot, nodes, room);
+            0
+        }
+    }
+}
+
+// A send, of which the rows come back as they were.
+// kept: three slices, all lent as `&mut`; beside a `&mut` of one of the room's, the check loses what a `&` of another shows.
+fn send(
     mode: Mode,
-    event: Record,
-    slot: usize,
+    letter: Letter,
     nodes: usize,
     counts: &mut [u16],
     words: &mut [u32],
     mail: &mut [u16],
 ) -> usize
     requires { (cut : List Event)
-        × Ready mode nodes cut (event_of event) slot counts.old words.old mail.old }
-    ensures { Follows mode nodes (event_of event) slot
+        × Ready mode nodes cut (send letter.from.0 letter.to.0 letter.number.0) letter.slot
+        counts.old words.old mail.old }
+    ensures { Follows mode nodes (send letter.from.0 letter.to.0 letter.number.0) letter.slot
         counts.old words.old mail.old
         counts.new words.new mail.new result }
 {
-    match event {
-        Record::Idle(_) => 0,
-        Record::Mark(node) => {
-            marks::mark(node, nodes, counts, words);
-            0
-        }
-        Record::Send(from, to, number) => {
-            sends::send(mode, from, to, number, slot, nodes, counts, words, mail)
-        }
-        Record::Receipt(node, _) => {
-            receipts::receipt(node, slot, nodes, counts, words, mail);
-            0
-        }
-    }
+    sends::send(mode, letter, nodes, counts, words, mail)
 }

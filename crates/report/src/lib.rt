@@ -3,6 +3,7 @@
 
 ghost use Rattle.std.specs.Prelude.{◌≡◌, Ok};
 ghost use Rattle.logs.specs.Record.{number_of as reason_number};
+ghost use Rattle.room.specs.Work.{Same};
 ghost use Rattle.passes.specs.Report.{bytes_alone};
 ghost use Rattle.report.specs.declared.Answer.TheVariants.{Refused};
 ghost use Rattle.report.specs.Run.{number_of, place_of, totals_of, Ran};
@@ -10,9 +11,11 @@ ghost use Rattle.report.specs.Settling.{Looked, Zero, Settles};
 
 use logs::Refusal;
 use passes::{Course, Tally};
-use room::Mode;
+use room::{Mode, WorkRoom};
 
 // The answer of a run.
+// kept: an enum of its own and not a Result, since `Ran` and the tables tell the number, the place and the totals of each of the four,
+// and the numbers 2 to 12 as the verdict has them.
 #[derive(Clone, Copy)]
 pub enum Answer {
     // 0: accepted, with the log's length and the totals.
@@ -101,7 +104,7 @@ pub fn run(
     }
     match logs::open(log) {
         Err(refusal) => Answer::from(refusal),
-        Ok((nodes, first)) => settle(
+        Ok((nodes, first)) => settle_in(
             &Course {
                 mode,
                 log,
@@ -116,9 +119,11 @@ pub fn run(
     }
 }
 
-// Runs the records of a log in a cleared work room of the fixed sizes: first to see whether all is well and how long the report
-// is, then, where it fits, to write it.
-fn settle(
+// kept: here and in the three functions below that all is zero is asked for at each, since a pass between them changes it, so that
+// no type can say it.
+
+// Lends cleared slices of just the fixed sizes as one work room, and runs the records of a log in it.
+fn settle_in(
     course: &Course<'_>,
     counts: &mut [u16],
     words: &mut [u32],
@@ -129,49 +134,54 @@ fn settle(
     ensures { Settles course.now.mode course.now.log.now report.old
         counts.new words.new mail.new report.new result }
 {
-    match look(course, counts, words, mail, report) {
+    let mut room = WorkRoom {
+        counts,
+        words,
+        mail,
+    };
+    settle(course, &mut room, report)
+}
+
+// Runs the records of a log in a cleared work room: first to see whether all is well and how long the report is, then, where it
+// fits, to write it.
+fn settle(course: &Course<'_>, room: &mut WorkRoom<'_>, report: &mut [u8]) -> Answer
+    requires { Zero room.old.counts.now room.old.words.now room.old.mail.now }
+    ensures same { Same room.old room.new }
+    ensures settles { Settles course.now.mode course.now.log.now report.old
+        room.new.counts.now room.new.words.now room.new.mail.now report.new result }
+{
+    match look(course, room, report) {
         Err(refusal) => Answer::from(refusal),
-        Ok(tally) => finish(course, tally, counts, words, mail, report),
+        Ok(tally) => finish(course, tally, room, report),
     }
 }
 
 // A pass that is lent no byte of the report room, and leaves the work room as it came, all zero.
-fn look(
-    course: &Course<'_>,
-    counts: &mut [u16],
-    words: &mut [u32],
-    mail: &mut [u16],
-    report: &mut [u8],
-) -> Result<Tally, Refusal>
-    requires { Zero counts.old words.old mail.old }
+fn look(course: &Course<'_>, room: &mut WorkRoom<'_>, report: &mut [u8]) -> Result<Tally, Refusal>
+    requires { Zero room.old.counts.now room.old.words.now room.old.mail.now }
+    ensures same { Same room.old room.new }
     ensures looked { Looked course.now.mode course.now.log.now course.now.nodes result }
-    ensures zero_again { Zero counts.new words.new mail.new }
+    ensures zero_again { Zero room.new.counts.now room.new.words.now room.new.mail.now }
     ensures report_unchanged { report.new ≡ report.old }
 {
-    let passed = passes::pass(course, counts, words, mail, &mut report[..0]);
-    room::clear(counts, words, mail);
+    let passed = passes::pass(course, room, &mut report[..0]);
+    room::clear(room.counts, room.words, room.mail);
     passed
 }
 
 // The end of a run over a log that is accepted, with its totals: the report is written if its room has space for it.
-fn finish(
-    course: &Course<'_>,
-    tally: Tally,
-    counts: &mut [u16],
-    words: &mut [u32],
-    mail: &mut [u16],
-    report: &mut [u8],
-) -> Answer
-    requires zero { Zero counts.old words.old mail.old }
+fn finish(course: &Course<'_>, tally: Tally, room: &mut WorkRoom<'_>, report: &mut [u8]) -> Answer
+    requires zero { Zero room.old.counts.now room.old.words.now room.old.mail.now }
     requires looked { Looked course.now.mode course.now.log.now course.now.nodes (Ok tally) }
-    ensures { Settles course.now.mode course.now.log.now report.old
-        counts.new words.new mail.new report.new result }
+    ensures same { Same room.old room.new }
+    ensures settles { Settles course.now.mode course.now.log.now report.old
+        room.new.counts.now room.new.words.now room.new.mail.now report.new result }
 {
     let end = course.log.len();
     let bytes = tally.bytes;
     if report.len() < bytes {
         return Answer::SmallReport(end, bytes);
     }
-    let _ = passes::pass(course, counts, words, mail, report);
+    let _ = passes::pass(course, room, report);
     Answer::Accepted(end, tally)
 }

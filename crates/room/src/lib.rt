@@ -2,9 +2,12 @@
 #![tactic(auto)]
 
 pub mod mail;
+mod work;
 
 ghost use Rattle.std.specs.Prelude.{◌≡◌, min};
 ghost use Rattle.room.specs.Room.{Cleared};
+
+pub use work::WorkRoom;
 
 // What goes along with a message.
 #[derive(Clone, Copy)]
@@ -17,6 +20,7 @@ pub enum Mode {
 
 // Clears the work room: 1,024 counts, 1,056 words, 4,480 elements of mail, and nothing behind them. Where one of the slices is
 // smaller nothing is touched, and the answer is false.
+// kept: a bool, since `Cleared` tells what the slices hold by it.
 pub fn clear(counts: &mut [u16], words: &mut [u32], mail: &mut [u16]) -> bool
     ensures { Cleared
         counts.old words.old mail.old

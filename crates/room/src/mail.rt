@@ -1,4 +1,5 @@
 // Finding in the mail: 128 slots of 35 elements. A slot's first element is 0 if it is free, its third the message number.
+// kept: a slice whose length is asked for, and no WorkRoom, since whoever asks has to have the mail alone.
 ghost use Rattle.std.specs.Prelude.{◌≡◌, length};
 ghost use Rattle.room.specs.Finding.{Finds, surveyed};
 

@@ -1,4 +1,5 @@
 // Logs at the bounds, and just past them.
+// kept: functions that are lists of calls, a line for each case; in a loop over a table the places would have to be shown in range.
 ghost use Rattle.std.specs.Prelude.{◌≤◌, ◌<◌};
 
 use crate::trial::Trials;

@@ -1,4 +1,5 @@
 // Cases made of log A: cut short, with one byte changed, and in rooms of other sizes.
+// kept: functions that are lists of calls, a line for each case; in a loop over a table the places would have to be shown in range.
 ghost use Rattle.std.specs.Prelude.{◌≤◌, ◌<◌};
 
 use crate::trial::{Sizes, Trials};

@@ -52,6 +52,7 @@ impl<'a> View<'a> {
 }
 
 // What stands at a place of a report, as shape's look answers, through a view.
+// kept: this and `count` say what the methods say, for whoever has a slice and a place; both are promised (docs/PROMISES.md, E).
 pub fn group(report: &[u8], at: usize) -> Result<Option<(Mark, usize)>, BadGroup>
     ensures { result ≡ group_seen report.now at }
 {

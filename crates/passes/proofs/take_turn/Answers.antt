@@ -5,21 +5,21 @@ use Rattle.protocol.proofs.Judged.{admitted_ready}
 use Rattle.passes.proofs.Turns.{stands_mailed, stands_place, stands_events, turn_ends, turn_unread, turn_refused, turn_goes}
 use Rattle.passes.proofs.take_turn.Goals as goal
 
-pub returns-in_err-event : goal.returns-in_err-event
-returns-in_err-event c =
+pub returns-in_err-event-clause-turned : goal.returns-in_err-event-clause-turned
+returns-in_err-event-clause-turned c =
     let e : c.from_residual.result ≡ Err c.in_err-event.field-0.0 = search rules in
     λ cut room here. rw e (turn_unread here (sym c.in_err-event.ensures))
 
-pub returns-in_default : goal.returns-in_default
-returns-in_default c = λ cut room here. turn_ends here (sym c.in_ok-event.ensures ∙ ap Ok c.in_default.is)
+pub returns-in_default-clause-turned : goal.returns-in_default-clause-turned
+returns-in_default-clause-turned c = λ cut room here. turn_ends here (sym c.in_ok-event.ensures ∙ ap Ok c.in_default.is)
 
-pub admit-requires : goal.admit-requires
-admit-requires c =
+pub judge-requires : goal.judge-requires
+judge-requires c =
     let here = c.requires.2 in
     record { at_bound = stands_place here; cut_mailed = (c.requires.0, stands_events here, stands_mailed here) }
 
-pub returns-in_err-slot : goal.returns-in_err-slot
-returns-in_err-slot c =
+pub returns-in_err-slot-clause-turned : goal.returns-in_err-slot-clause-turned
+returns-in_err-slot-clause-turned c =
     let e : c.from_residual-in_err-slot.result ≡ Err c.in_err-slot.field-0.0 = search rules in
     let read = sym c.in_ok-event.ensures ∙ ap Ok c.in-Some.is in
     λ cut room here. rw e (turn_refused here read (c.in_err-slot.ensures cut (stands_events here) (stands_mailed here)))
@@ -33,9 +33,9 @@ advance-sum-requires c =
       here.noted,
     )
 
-pub returns : goal.returns
-returns c =
+pub returns-clause-turned : goal.returns-clause-turned
+returns-clause-turned c =
     λ cut room here.
     let judged = c.in_ok-slot.ensures cut (stands_events here) (stands_mailed here) in
     turn_goes here (sym c.in_ok-event.ensures ∙ ap Ok c.in-Some.is) judged
-    (c.advance-sum.ensures cut room (admitted_ready (reached_lawful here.reached) here.noted.holds judged) here.noted)
+    (c.advance-sum.ensures.noted cut room (admitted_ready (reached_lawful here.reached) here.noted.holds judged) here.noted)

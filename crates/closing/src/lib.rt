@@ -6,6 +6,8 @@ ghost use Rattle.std.specs.Prelude.{◌≡◌, length};
 ghost use Rattle.groups.specs.Groups.{Laid};
 ghost use Rattle.closing.specs.Closing.{ok_line, refused_line, too_long};
 
+use groups::Pen;
+
 // The last line of an accepted log.
 pub fn totals(
     events: usize,
@@ -17,21 +19,26 @@ pub fn totals(
     ensures laid { Laid 0 (ok_line events marks sends carried) room.old room.new result }
     ensures length_kept { 4096 ≡ length room.new }
 {
-    let mut at = words::word(b"ok ", 0, room);
-    at = words::counted(events, b" events ", at, room);
-    at = words::counted(marks, b" marks ", at, room);
-    at = words::counted(sends, b" sends ", at, room);
-    words::counted(carried, b" carried\n", at, room)
+    let mut pen = Pen { room, at: 0 };
+    words::word(b"ok ", &mut pen);
+    words::counted(events, b" events ", &mut pen);
+    words::counted(marks, b" marks ", &mut pen);
+    words::counted(sends, b" sends ", &mut pen);
+    words::counted(carried, b" carried\n", &mut pen);
+    pen.at
 }
 
 // The line of a refusal.
+// kept: a number and no `Reason`, since 1 and 13 are printed too.
 pub fn refusal(number: u8, place: usize, room: &mut [u8; 4096]) -> usize
     ensures laid { Laid 0 (refused_line number place) room.old room.new result }
     ensures length_kept { 4096 ≡ length room.new }
 {
-    let mut at = words::word(b"refused ", 0, room);
-    at = words::counted(number as usize, b" at ", at, room);
-    words::counted(place, b"\n", at, room)
+    let mut pen = Pen { room, at: 0 };
+    words::word(b"refused ", &mut pen);
+    words::counted(number as usize, b" at ", &mut pen);
+    words::counted(place, b"\n", &mut pen);
+    pen.at
 }
 
 // The line for an input past its bound.
@@ -39,5 +46,7 @@ pub fn too_long(room: &mut [u8; 4096]) -> usize
     ensures laid { Laid 0 too_long room.old room.new result }
     ensures length_kept { 4096 ≡ length room.new }
 {
-    words::word(b"too long\n", 0, room)
+    let mut pen = Pen { room, at: 0 };
+    words::word(b"too long\n", &mut pen);
+    pen.at
 }

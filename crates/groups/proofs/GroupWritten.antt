@@ -32,14 +32,14 @@ module _ (i : ℕ) (row : List ℕ) (flags : ℕ) (few : length row ≤ 32) (cle
   size_counted sized counted =
       omega (arith, sized, counted, group_size (length row) (row_answer i row flags), causes_set row flags few clear)
 
-  -- the head, the stamp and the predecessors, one behind the other
-  pub group_written : {number causes size stamps at past : ℕ} {room room₁ room₂ room₃ : List ℕ}
+  -- the head, the stamp and the predecessors, one behind the other: they are what the lent room holds in the end
+  pub group_written : {number causes size stamps at past : ℕ} {room room₁ room₂ room₃ room' : List ℕ}
       → number ≡ stamp_of i row i → causes ≡ set_below 32 flags
       → size ≡ length (group_of (length row) (row_answer i row flags)) → size ≤ length room
       → Laid 0 (four_bytes 0x21 i number ++ (causes ∷ [])) room room₁ stamps
       → Laid stamps (stamp_records (length row) (stamp_of i row)) room₁ room₂ at
-      → Laid at (cause_records (flagged (length row) (λ k. get_or row k 0) (bit flags))) room₂ room₃ past
-      → Written 0 (group_of (length row) (row_answer i row flags)) room room₃ size
+      → Laid at (cause_records (flagged (length row) (λ k. get_or row k 0) (bit flags))) room₂ room₃ past → room' ≡ room₃
+      → Written 0 (group_of (length row) (row_answer i row flags)) room room' size
   unfolding group_of row_answer
-  group_written numbered counted sized fits head stamp causes =
-      written sized fits (and_then (rw (numbered, counted ∙ sym (causes_set row flags few clear)) at head) (and_then stamp causes))
+  group_written numbered counted sized fits head stamp causes left =
+      rw left (written sized fits (and_then (rw (numbered, counted ∙ sym (causes_set row flags few clear)) at head) (and_then stamp causes)))

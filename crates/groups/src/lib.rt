@@ -5,8 +5,12 @@ ghost use Rattle.std.specs.Prelude.{◌≡◌, false, cond, [], ◌∷◌, ◌++
 ghost use Rattle.bits.specs.Bits.{bit};
 ghost use Rattle.machine.specs.Answer.{flagged};
 ghost use Rattle.groups.specs.Groups.{four_bytes, stamp_record, stamp_records, cause_records, group_of, stamp_of, row_answer, Laid, Written};
+ghost use Rattle.groups.specs.Pen.{Same};
+
+pub mod pen;
 
 use logs::{MarkNumber, Node};
+pub use pen::Pen;
 
 // A mark's stamp: its node, and the node's row before the mark. The mark itself is counted.
 #[derive(Clone, Copy)]
@@ -42,17 +46,17 @@ impl<'a> Stamp<'a> {
         bytes
     }
 
-    // Writes its records, node after node. The place past them comes back, as from each of the writers below.
-    fn write(self, from: usize, room: &mut [u8]) -> usize
-        requires { from + length (stamp_records (length self.row.now) (stamp_of self.own self.row.now)) ≤ length room.old }
-        ensures { Laid from (stamp_records (length self.entry.row.now) (stamp_of self.entry.own self.entry.row.now))
-            room.old room.new result }
+    // Writes its records, node after node.
+    fn write(self, pen: &mut Pen<'_>)
+        requires { pen.old.at + length (stamp_records (length self.row.now) (stamp_of self.own self.row.now))
+            ≤ length pen.old.room.now }
+        ensures same { Same pen.old pen.new }
+        ensures laid { Laid pen.old.at (stamp_records (length self.entry.row.now) (stamp_of self.entry.own self.entry.row.now))
+            pen.old.room.now pen.new.room.now pen.new.at }
     {
-        let mut at = from;
         for k in 0..self.row.len() {
-            at = stamp_record(Node(k as u8), self.at(k), at, room);
+            stamp_record(Node(k as u8), self.at(k), pen);
         }
-        at
     }
 }
 
@@ -72,73 +76,74 @@ pub fn group(node: Node, row: &[u16], flags: u32, room: &mut [u8]) -> usize
     if room.len() < bytes {
         return bytes;
     }
-    let stamps = head(node, MarkNumber(stamp.at(own)), causes as u8, room);
-    let at = stamp.write(stamps, room);
-    write_causes(row, flags, at, room);
+    let mut pen = Pen { room, at: 0 };
+    head(node, MarkNumber(stamp.at(own)), causes as u8, &mut pen);
+    stamp.write(&mut pen);
+    write_causes(row, flags, &mut pen);
     bytes
 }
 
 // Writes a record of four bytes.
-fn four_bytes(kind: u8, node: Node, number: u16, at: usize, room: &mut [u8]) -> usize
-    requires { at + 4 ≤ length room.old }
-    ensures { Laid at (four_bytes kind node.0 number) room.old room.new result }
+fn four_bytes(kind: u8, node: Node, number: u16, pen: &mut Pen<'_>)
+    requires { pen.old.at + 4 ≤ length pen.old.room.now }
+    ensures same { Same pen.old pen.new }
+    ensures laid { Laid pen.old.at (four_bytes kind node.0 number) pen.old.room.now pen.new.room.now pen.new.at }
 {
     let [low, high] = number.to_le_bytes();
-    room[at..at + 4].copy_from_slice(&[kind, node.0, low, high]);
-    at + 4
+    let end = pen.at + 4;
+    pen.room[pen.at..end].copy_from_slice(&[kind, node.0, low, high]);
+    pen.at = end;
 }
 
 // Writes the first record of a group: the mark, and how many direct predecessors it has.
-fn head(node: Node, number: MarkNumber, causes: u8, room: &mut [u8]) -> usize
-    requires { 5 ≤ length room.old }
-    ensures { Laid 0 (four_bytes 0x21 node.0 number.0 ++ (causes ∷ []))
-        room.old room.new result }
+fn head(node: Node, number: MarkNumber, causes: u8, pen: &mut Pen<'_>)
+    requires { pen.old.at + 5 ≤ length pen.old.room.now }
+    ensures same { Same pen.old pen.new }
+    ensures laid { Laid pen.old.at (four_bytes 0x21 node.0 number.0 ++ (causes ∷ []))
+        pen.old.room.now pen.new.room.now pen.new.at }
 {
-    let at = four_bytes(0x21, node, number.0, 0, room);
-    room[at] = causes;
-    at + 1
+    four_bytes(0x21, node, number.0, pen);
+    pen.room[pen.at] = causes;
+    pen.at += 1;
 }
 
 // Writes the stamp at a node, unless it is zero.
 #[tactic(auto, using(crate::proofs::Records::stamp_some, crate::proofs::Records::stamp_none, crate::proofs::Laying::none_laid))]
-fn stamp_record(node: Node, count: u16, at: usize, room: &mut [u8]) -> usize
-    requires { at + length (stamp_record node.0 count) ≤ length room.old }
-    ensures { Laid at (stamp_record node.0 count) room.old room.new result }
+fn stamp_record(node: Node, count: u16, pen: &mut Pen<'_>)
+    requires { pen.old.at + length (stamp_record node.0 count) ≤ length pen.old.room.now }
+    ensures same { Same pen.old pen.new }
+    ensures laid { Laid pen.old.at (stamp_record node.0 count) pen.old.room.now pen.new.room.now pen.new.at }
 {
     if count > 0 {
-        four_bytes(0x22, node, count, at, room)
-    } else {
-        at
+        four_bytes(0x22, node, count, pen);
     }
 }
 
 // Writes a direct predecessor, if its flag is set.
 #[tactic(auto, using(crate::proofs::Laying::none_laid), unfolding(crate::specs::Groups::cause_records))]
-fn cause_record(node: Node, number: MarkNumber, flag: bool, at: usize, room: &mut [u8]) -> usize
-    requires { at + cond flag 4 0 ≤ length room.old }
-    ensures { Laid at (cause_records (cond flag ((node.0, number.0) ∷ []) []))
-        room.old room.new result }
+fn cause_record(node: Node, number: MarkNumber, flag: bool, pen: &mut Pen<'_>)
+    requires { pen.old.at + cond flag 4 0 ≤ length pen.old.room.now }
+    ensures same { Same pen.old pen.new }
+    ensures laid { Laid pen.old.at (cause_records (cond flag ((node.0, number.0) ∷ []) []))
+        pen.old.room.now pen.new.room.now pen.new.at }
 {
     if flag {
-        four_bytes(0x23, node, number.0, at, room)
-    } else {
-        at
+        four_bytes(0x23, node, number.0, pen);
     }
 }
 
 // Writes a mark's direct predecessors, node after node: those whose flag is set, each with its count.
-fn write_causes(row: &[u16], flags: u32, from: usize, room: &mut [u8]) -> usize
+fn write_causes(row: &[u16], flags: u32, pen: &mut Pen<'_>)
     requires row_len_bound { length row.now ≤ 32 }
-    requires flags_in_bounds { from + length (cause_records (flagged (length row.now) (λ k. get_or row.now k 0) (bit flags)))
-        ≤ length room.old }
-    ensures { Laid from
+    requires flags_in_bounds { pen.old.at + length (cause_records (flagged (length row.now) (λ k. get_or row.now k 0) (bit flags)))
+        ≤ length pen.old.room.now }
+    ensures same { Same pen.old pen.new }
+    ensures laid { Laid pen.old.at
         (cause_records (flagged (length row.now) (λ k. get_or row.now k 0) (bit flags)))
-        room.old room.new result }
+        pen.old.room.now pen.new.room.now pen.new.at }
 {
-    let mut at = from;
     for (k, count) in row.iter().enumerate() {
         let flag = bits::test(flags, k as u32);
-        at = cause_record(Node(k as u8), MarkNumber(*count), flag, at, room);
+        cause_record(Node(k as u8), MarkNumber(*count), flag, pen);
     }
-    at
 }

@@ -4,6 +4,8 @@
 ghost use Rattle.std.specs.Prelude.{◌≡◌};
 ghost use Rattle.naming.specs.Names.{Named, name_of};
 
+use groups::Pen;
+
 // Lays the name of a number over the front of text, with a zero behind it, if text has space for both, and answers its length
 // without the zero. A number without a name has length 0.
 pub fn name(number: u8, text: &mut [u8]) -> usize
@@ -46,8 +48,9 @@ fn lay(name: &[u8], text: &mut [u8]) -> usize
     ensures { Named name.now text.old text.new result }
 {
     if name.len() < text.len() {
-        let end = words::word(name, 0, text);
-        text[end] = 0;
+        let mut pen = Pen { room: text, at: 0 };
+        words::word(name, &mut pen);
+        words::word(b"\0", &mut pen);
     }
     name.len()
 }

@@ -6,4 +6,4 @@ use Rattle.closing.proofs.refusal.Goals as goal
 pub returns-clause-laid : goal.returns-clause-laid
 unfolding refused_line
 returns-clause-laid c =
-    and_then (and_then c.word-at.ensures c.counted-at.ensures.laid) c.counted.ensures.laid
+    and_then (and_then c.word.ensures.laid c.counted.ensures.laid) c.counted-2.ensures.laid

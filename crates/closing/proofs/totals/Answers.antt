@@ -6,5 +6,5 @@ use Rattle.closing.proofs.totals.Goals as goal
 pub returns-clause-laid : goal.returns-clause-laid
 unfolding ok_line
 returns-clause-laid c =
-    and_then (and_then (and_then (and_then c.word-at.ensures c.counted-at.ensures.laid) c.counted-at-2.ensures.laid) c.counted-at-3.ensures.laid)
-    c.counted.ensures.laid
+    and_then (and_then (and_then (and_then c.word.ensures.laid c.counted.ensures.laid) c.counted-2.ensures.laid) c.counted-3.ensures.laid)
+    c.counted-4.ensures.laid

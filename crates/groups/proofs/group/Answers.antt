@@ -1,4 +1,5 @@
 -- `groups::group` meets its contract: what is counted is the group's size, and the three runs that are written side by side are the group.
+use Rattle.std.proofs.Common.{rules}
 use mathlib.Core.List.{List}
 use Prim.Native.Nat.{ℕ}
 use native.Mathlib.Omega.{arith}
@@ -24,5 +25,5 @@ pub returns : goal.returns
 returns c =
     let few = c.requires.node_in_bounds.1 in
     let sized = size_counted _ _ _ few c.requires.flags_bound c.size.ensures c.count-causes.ensures in
-    group_written _ _ _ few c.requires.flags_bound c.at.ensures c.count-causes.ensures sized (omega arith) c.head-stamps.ensures
-    c.write-at.ensures c.write_causes.ensures
+    group_written _ _ _ few c.requires.flags_bound c.at.ensures c.count-causes.ensures sized (omega arith) c.head.ensures.laid
+    c.write.ensures.laid c.write_causes.ensures.laid (search rules)

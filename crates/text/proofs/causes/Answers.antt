@@ -1,4 +1,5 @@
 -- `text::causes` meets its contract: after k turns the first k direct predecessors are laid.
+use mathlib.Core.Path.{refl, ◌∙◌}
 use native.Mathlib.Omega.{arith}
 use Rattle.groups.proofs.Laying.{none_laid}
 use Rattle.reading.specs.Reading.{causes_at}
@@ -8,7 +9,10 @@ use Rattle.text.proofs.causes.Goals as goal
 
 pub loop-k-init : goal.loop-k-init
 unfolding causes_at causes_text
-loop-k-init c = (omega arith, none_laid _ _ (omega arith))
+loop-k-init c = ((refl, refl), omega arith, none_laid _ _ (omega arith))
 
 pub loop-k-preserved : goal.loop-k-preserved
-loop-k-preserved c = (omega arith, causes_more _ _ _ c.loop-k.invariant.1 c.cause-write.ensures.laid)
+loop-k-preserved c =
+    let l = c.loop-k.invariant in
+    let s = c.name.ensures in
+    ((s.same.0 ∙ l.0.0, s.same.1 ∙ l.0.1), omega arith, causes_more _ _ _ l.2 s.laid)

@@ -5,4 +5,4 @@ use Rattle.text.proofs.stamp.Goals as goal
 
 pub returns-clause-laid : goal.returns-clause-laid
 unfolding stamp_part
-returns-clause-laid c = and_then c.word-behind.ensures c.counts.ensures.laid
+returns-clause-laid c = and_then c.word.ensures.laid c.counts.ensures.laid

@@ -1,8 +1,24 @@
--- `words::number` meets its contract: the last digit lies behind what a tenth of the number has.
+-- `words::number` meets its contract: the last digit lies behind what a tenth of the number has, or stands alone.
 -- Assumes nothing.
+use mathlib.Core.Path.{◌≡◌, ap}
+use Prim.Native.Nat.{◌%◌}
+use native.Mathlib.Omega.{arith}
+use lib.ListN.{length}
 use Rattle.groups.proofs.Laying.{and_then}
-use Rattle.words.proofs.Decimals.{decimal_more}
+use Rattle.words.proofs.Decimals.{decimal_one, decimal_more, decimal_longer}
+use Rattle.words.proofs.+number.Goals.{then-n-ge10, else-n-ge10}
 use Rattle.words.proofs.+number.Goals as goal
 
-pub returns-else-n-lt10 : goal.returns-else-n-lt10
-returns-else-n-lt10 t c = rw (decimal_more _ c.if-n-lt10.false) (and_then c.number-last.ensures c.digit-else-n-lt10.ensures)
+pub digit-requires : goal.digit-requires
+digit-requires t c = elim c.if-n-ge10.branch [
+  | then-n-ge10 w ↦ let laid = w.number.ensures.laid in rw w.pen-is (omega arith, omega (arith, decimal_longer _ w.if-n-ge10.true, laid.past_is))
+  | else-n-ge10 w ↦ rw w.pen-is (omega arith, omega (arith, ap length (decimal_one _ w.if-n-ge10.false)))
+]
+
+pub returns-clause-laid : goal.returns-clause-laid
+returns-clause-laid t c = elim c.if-n-ge10.branch [
+  | then-n-ge10 w ↦ rw (decimal_more _ w.if-n-ge10.true) (and_then w.number.ensures.laid (rw w.pen-is at c.digit.ensures.laid))
+  | else-n-ge10 w ↦
+      let last : c.args.n % 10 ≡ c.args.n = omega (arith, w.if-n-ge10.false) in
+      rw (decimal_one _ w.if-n-ge10.false) (rw (w.pen-is, last) at c.digit.ensures.laid)
+]

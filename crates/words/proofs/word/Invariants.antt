@@ -4,4 +4,7 @@ use lib.Seq.{paste}
 use Rattle.words.proofs.word.Given as goal
 
 abbrev pub invariant-loop-k : goal.invariant-loop-k
-invariant-loop-k l = l.room ≡ paste l.fn.room l.at l.bytes l.k
+invariant-loop-k l =
+    (l.pen.room.ghost_name ≡ l.fn.pen.room.ghost_name)
+    × (l.pen.at ≡ l.fn.pen.at)
+    × (l.pen.room.now ≡ paste l.fn.pen.room.now l.fn.pen.at l.bytes l.k)

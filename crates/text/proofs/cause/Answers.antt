@@ -1,6 +1,0 @@
--- `text::cause` meets its contract: the name is laid behind the space.
-use Rattle.groups.proofs.Laying.{and_then}
-use Rattle.text.proofs.cause.Goals as goal
-
-pub returns-clause-laid : goal.returns-clause-laid
-returns-clause-laid c = and_then c.word-behind.ensures c.name.ensures.laid

@@ -23,6 +23,7 @@ struct Entry {
 }
 
 // An entry as an element of a letter: 0 where nothing is said.
+// kept: 0 and no Option, since so it lies in the mail that C lends (docs/LAYOUT.md).
 fn code(entry: Option<Entry>) -> u16
     requires { IfSome entry (λ e. e.count ≤ 4096) }
     ensures { result ≡ code_of (entry_said entry) }

@@ -25,6 +25,7 @@ pub struct Survey {
 const MOST_GROUPS: usize = 4096;
 
 // Checks a report, and counts its groups. No group is of the mark that it looks for on the way.
+// kept: a mark that no group has, and no Option, since what `find` promises (`surveyed`) is of two marks.
 #[tactic(auto, unfolding(crate::specs::Surveyed::survey_of))]
 pub fn check(report: &[u8]) -> Result<usize, BadGroup>
     ensures { result ≡ checked report.now }

@@ -1,5 +1,6 @@
 // The line that ends the program's text: the totals, a refusal, or that the input is too long. Each is laid over the front of a
 // room; the number of its bytes comes back.
+// kept: the room is lent and may be longer, so how much of it was written is told beside it; that it keeps its length is promised of each.
 #![tactic(auto)]
 
 ghost use Rattle.std.specs.Prelude.{◌≡◌, length};

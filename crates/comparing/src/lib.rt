@@ -1,10 +1,10 @@
 // Comparing two marks of a report. Any bytes and any marks are taken, and nothing is written.
 #![tactic(auto)]
 
-ghost use Rattle.std.specs.Prelude.{◌≡◌, ◌≤◌, length};
+ghost use Rattle.std.specs.Prelude.{◌≡◌, ◌≤◌, length, Err};
 ghost use Rattle.reading.specs.Reading.{stamp_at};
 ghost use Rattle.comparing.specs.declared.Incomparable.TheVariants.{NotWellFormed};
-ghost use Rattle.comparing.specs.Compare.{compared, ordered};
+ghost use Rattle.comparing.specs.Compare.{number_of, place_of, compared, ordered};
 ghost use Rattle.comparing.specs.Judged.{judged};
 
 use shape::{BadGroup, Mark};
@@ -31,6 +31,29 @@ pub enum Incomparable {
     SecondAbsent,
 }
 
+impl Incomparable {
+    // Its number in 01's table.
+    pub fn number(self) -> u8
+        ensures { result ≡ number_of (Err self) }
+    {
+        match self {
+            Incomparable::NotWellFormed(_) => 14,
+            Incomparable::FirstAbsent => 15,
+            Incomparable::SecondAbsent => 16,
+        }
+    }
+
+    // Its place in the report; an absent mark has none, which is 0.
+    pub fn place(self) -> usize
+        ensures { result ≡ place_of (Err self) }
+    {
+        match self {
+            Incomparable::NotWellFormed(place) => place,
+            Incomparable::FirstAbsent | Incomparable::SecondAbsent => 0,
+        }
+    }
+}
+
 impl From<BadGroup> for Incomparable {
     ghost from_gives = { λ bad e. e ≡ NotWellFormed bad.place };
 
@@ -41,6 +64,7 @@ impl From<BadGroup> for Incomparable {
 }
 
 // Compares two marks of a report.
+// kept: a report and two marks, as `compared` takes them.
 #[tactic(auto, using(crate::proofs::Answering::answering))]
 pub fn compare(report: &[u8], first: Mark, second: Mark) -> Result<Standing, Incomparable>
     ensures { result ≡ compared report.now first second }

@@ -1,7 +1,7 @@
 -- The records of a stamp and of predecessors, node after node: one more node, and how many bytes there are.
 -- Assumes nothing.
 use mathlib.Core.Path.{◌≡◌, refl}
-use mathlib.Core.Bool.{Bool, true, false, cond}
+use mathlib.Core.Bool.{Bool, cond}
 use mathlib.Core.List.{List, [], ◌∷◌, ◌++◌}
 use Prim.Native.Nat.{ℕ, zero, suc, ◌*◌, ◌≤◌, ◌<◌}
 use native.Mathlib.Numerals.{add-one}
@@ -47,12 +47,6 @@ causes_length (x ∷ xs) = omega (arith, causes_length xs)
 -- the predecessor at node k, if there is one
 abbrev pub cause_at : (ℕ → ℕ) → (ℕ → Bool) → ℕ → List (ℕ × ℕ)
 cause_at count flag k = cond (flag k) ((k, count k) ∷ []) []
-
--- it has four bytes or none
-pub cause_size : (b : Bool) (x : ℕ × ℕ) → length (cause_records (cond b (x ∷ []) [])) ≡ cond b 4 0
-unfolding cause_records
-cause_size true x = refl
-cause_size false x = refl
 
 -- the next node's record comes behind the others
 pub causes_grow : (count : ℕ → ℕ) (flag : ℕ → Bool)

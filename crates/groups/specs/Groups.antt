@@ -4,6 +4,14 @@ use Rattle.std.specs.Prelude.{◌≡◌, cond, List, [], ◌∷◌, ◌++◌, �
 use Rattle.bits.specs.Bits.{bit}
 use Rattle.machine.specs.Machine.{put}
 use Rattle.machine.specs.Answer.{Answer, flagged}
+use Rattle.groups.specs.declared.Kind.{Kind}
+use Rattle.groups.specs.declared.Kind.TheVariants.{Mark, Count, Cause}
+
+-- the byte of each kind
+abbrev pub byte_of : Kind → ℕ
+byte_of Mark = 0x21
+byte_of Count = 0x22
+byte_of Cause = 0x23
 
 -- a record of four bytes: its kind, a node, and a number, low byte first
 abbrev pub four_bytes : ℕ → ℕ → ℕ → List ℕ

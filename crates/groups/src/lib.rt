@@ -1,16 +1,27 @@
 // A mark's group in the report, from its node's row and flags.
 #![tactic(auto)]
 
-ghost use Rattle.std.specs.Prelude.{◌≡◌, false, cond, [], ◌∷◌, ◌++◌, ℕ, ◌+◌, ◌<◌, ◌≤◌, length, get_or};
+ghost use Rattle.std.specs.Prelude.{◌≡◌, false, [], ◌∷◌, ◌++◌, ℕ, ◌+◌, ◌<◌, ◌≤◌, length, get_or};
 ghost use Rattle.bits.specs.Bits.{bit};
 ghost use Rattle.machine.specs.Answer.{flagged};
-ghost use Rattle.groups.specs.Groups.{four_bytes, stamp_record, stamp_records, cause_records, group_of, stamp_of, row_answer, Laid, Written};
+ghost use Rattle.groups.specs.Groups.{byte_of, four_bytes, stamp_record, stamp_records, cause_records, group_of, stamp_of, row_answer, Laid, Written};
 ghost use Rattle.groups.specs.Pen.{Same};
 
 pub mod pen;
 
 use logs::{MarkNumber, Node};
 pub use pen::Pen;
+
+// The kind of a record of a report, by its byte in 01.
+#[derive(Clone, Copy)]
+pub enum Kind {
+    // A mark, which begins a group.
+    Mark = 0x21,
+    // A node's count in its stamp.
+    Count = 0x22,
+    // A direct predecessor.
+    Cause = 0x23,
+}
 
 // A mark's stamp: its node, and the node's row before the mark. The mark itself is counted.
 #[derive(Clone, Copy)]
@@ -62,6 +73,7 @@ impl<'a> Stamp<'a> {
 
 // Writes the group of a mark at the node to the front of a room that has space for it, from the node's row and its flags
 // before the mark. How many bytes the group has comes back in any case.
+// kept: the room is lent and may be longer, so how much of it was written is told beside it.
 #[tactic(auto, using(crate::proofs::GroupSizes::stamps_size, crate::proofs::GroupSizes::set_size))]
 pub fn group(node: Node, row: &[u16], flags: u32, room: &mut [u8]) -> usize
     requires node_in_bounds { (node.0 < length row.now) × (length row.now ≤ 32) × (get_or row.now node.0 0 < 65535) }
@@ -84,15 +96,26 @@ pub fn group(node: Node, row: &[u16], flags: u32, room: &mut [u8]) -> usize
 }
 
 // Writes a record of four bytes.
-fn four_bytes(kind: u8, node: Node, number: u16, pen: &mut Pen<'_>)
+// kept: here and in `head` a node and a number are two, since `Mark` is what a report is read as (crates/shape).
+fn four_bytes(kind: Kind, node: Node, number: u16, pen: &mut Pen<'_>)
     requires { pen.old.at + 4 ≤ length pen.old.room.now }
     ensures same { Same pen.old pen.new }
-    ensures laid { Laid pen.old.at (four_bytes kind node.0 number) pen.old.room.now pen.new.room.now pen.new.at }
+    ensures laid { Laid pen.old.at (four_bytes (byte_of kind) node.0 number) pen.old.room.now pen.new.room.now pen.new.at }
 {
     let [low, high] = number.to_le_bytes();
     let end = pen.at + 4;
-    pen.room[pen.at..end].copy_from_slice(&[kind, node.0, low, high]);
+    put(&mut pen.room[pen.at..end], [kind as u8, node.0, low, high]);
     pen.at = end;
+}
+
+// Writes four bytes over as many. The part is taken as an array, since a copy from a slice looks first whether the two overlap.
+fn put(part: &mut [u8], bytes: [u8; 4])
+    requires { length part.old ≡ 4 }
+    ensures { part.new ≡ bytes }
+{
+    if let Some(record) = part.as_mut_array() {
+        *record = bytes;
+    }
 }
 
 // Writes the first record of a group: the mark, and how many direct predecessors it has.
@@ -102,12 +125,13 @@ fn head(node: Node, number: MarkNumber, causes: u8, pen: &mut Pen<'_>)
     ensures laid { Laid pen.old.at (four_bytes 0x21 node.0 number.0 ++ (causes ∷ []))
         pen.old.room.now pen.new.room.now pen.new.at }
 {
-    four_bytes(0x21, node, number.0, pen);
+    four_bytes(Kind::Mark, node, number.0, pen);
     pen.room[pen.at] = causes;
     pen.at += 1;
 }
 
 // Writes the stamp at a node, unless it is zero.
+// kept: a count of 0 and no Option, since the definition of this name goes by the count.
 #[tactic(auto, using(crate::proofs::Records::stamp_some, crate::proofs::Records::stamp_none, crate::proofs::Laying::none_laid))]
 fn stamp_record(node: Node, count: u16, pen: &mut Pen<'_>)
     requires { pen.old.at + length (stamp_record node.0 count) ≤ length pen.old.room.now }
@@ -115,20 +139,7 @@ fn stamp_record(node: Node, count: u16, pen: &mut Pen<'_>)
     ensures laid { Laid pen.old.at (stamp_record node.0 count) pen.old.room.now pen.new.room.now pen.new.at }
 {
     if count > 0 {
-        four_bytes(0x22, node, count, pen);
-    }
-}
-
-// Writes a direct predecessor, if its flag is set.
-#[tactic(auto, using(crate::proofs::Laying::none_laid), unfolding(crate::specs::Groups::cause_records))]
-fn cause_record(node: Node, number: MarkNumber, flag: bool, pen: &mut Pen<'_>)
-    requires { pen.old.at + cond flag 4 0 ≤ length pen.old.room.now }
-    ensures same { Same pen.old pen.new }
-    ensures laid { Laid pen.old.at (cause_records (cond flag ((node.0, number.0) ∷ []) []))
-        pen.old.room.now pen.new.room.now pen.new.at }
-{
-    if flag {
-        four_bytes(0x23, node, number.0, pen);
+        four_bytes(Kind::Count, node, count, pen);
     }
 }
 
@@ -143,7 +154,8 @@ fn write_causes(row: &[u16], flags: u32, pen: &mut Pen<'_>)
         pen.old.room.now pen.new.room.now pen.new.at }
 {
     for (k, count) in row.iter().enumerate() {
-        let flag = bits::test(flags, k as u32);
-        cause_record(Node(k as u8), MarkNumber(*count), flag, pen);
+        if bits::test(flags, k as u32) {
+            four_bytes(Kind::Cause, Node(k as u8), *count, pen);
+        }
     }
 }

@@ -51,15 +51,11 @@ fn print_totals(rt: &impl Print, tally: Tally) -> io::Result<()> {
 }
 
 // Prints a refusal.
+// kept: a number and no `Reason`, since 1 and 13 are printed too.
 fn print_refusal(rt: &impl Print, number: u8, place: usize) -> io::Result<()> {
     let mut line = [0u8; 4096];
     let size = closing::refusal(number, place, &mut line);
     rt.write_all(&line[..size])
-}
-
-// How many nodes a log names; none if it names none.
-fn node_count(log: &[u8]) -> usize {
-    logs::open(log).map_or(0, |(nodes, _)| nodes as usize)
 }
 
 // Runs a log and prints what the report says, or the refusal.
@@ -76,8 +72,8 @@ fn print_log(rt: &impl Print, log: &[u8]) -> io::Result<()> {
         &mut mail,
         &mut report,
     );
-    if let Answer::Accepted(_, tally) = answer {
-        print_marks(rt, &report[..tally.bytes.min(16384)], node_count(log))?;
+    if let (Answer::Accepted(_, tally), Ok((nodes, _))) = (answer, logs::open(log)) {
+        print_marks(rt, &report[..tally.bytes.min(16384)], nodes as usize)?;
         return print_totals(rt, tally);
     }
     print_refusal(rt, answer.number(), answer.place())

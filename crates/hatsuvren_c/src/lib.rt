@@ -8,7 +8,7 @@ ghost use Rattle.hatsuvren_c.specs.Calls.{asked, Called, told_of, mark, Compared
 ghost use Rattle.naming.specs.Names.{Named, name_of};
 ghost use Rattle.hatsuvren_c.specs.Sizes.{counts_length, words_length, mail_length, rooms_bytes};
 
-use comparing::{Incomparable, Standing};
+use comparing::Standing;
 use logs::{MarkNumber, Node};
 use passes::Tally;
 use room::Mode;
@@ -93,9 +93,7 @@ pub extern "C" fn hatsuvren_compare(
         Ok(Standing::Before) => (0, 1, 0),
         Ok(Standing::After) => (0, 2, 0),
         Ok(Standing::Apart) => (0, 3, 0),
-        Err(Incomparable::NotWellFormed(bad)) => (14, 0, bad),
-        Err(Incomparable::FirstAbsent) => (15, 0, 0),
-        Err(Incomparable::SecondAbsent) => (16, 0, 0),
+        Err(refused) => (refused.number(), 0, refused.place()),
     };
     *order = found;
     *place = at;

@@ -11,6 +11,7 @@ use std::io::Read;
 // Reads into a buffer until it is full or the input ends, and answers how many bytes it put at the front. Of what stands behind
 // them in the buffer nothing is said, since a reader may write there too. Where a read fails, no byte is lost: the front of the
 // buffer has what was read before.
+// kept: the buffer is lent and may be longer, so how much of it was read is told beside it.
 pub fn read_full<R: Read>(input: &mut R, buffer: &mut [u8]) -> io::Result<usize>
     ensures filled { IfOk result (λ size. Filled (R.remaining input.old) (R.remaining input.new) buffer.new size) }
     ensures none_lost { OnErr result ((size : ℕ) × (size ≤ length buffer.new)

@@ -8,6 +8,7 @@ use groups::Pen;
 
 // Lays the name of a number over the front of text, with a zero behind it, if text has space for both, and answers its length
 // without the zero. A number without a name has length 0.
+// kept: the room is lent and may be longer, so how much of it was written is told beside it.
 pub fn name(number: u8, text: &mut [u8]) -> usize
     ensures { Named (name_of number) text.old text.new result }
 {

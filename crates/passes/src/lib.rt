@@ -59,6 +59,9 @@ pub fn pass(
     Ok(tally)
 }
 
+// kept: course, tally, room and report go from `pass` to each of its parts as they are; of a struct that lends them on each part would
+// have to say that the rest of it stays. That the room stands at a cut is asked of each, since each record makes it another cut.
+
 // Reads, judges and applies the record at a place. The place past it and the totals up to there come back; nothing if no record is
 // left.
 fn take_turn(

@@ -1,5 +1,5 @@
 // The header of a question, behind its first byte.
-ghost use Rattle.std.specs.Prelude.{◌≡◌, ◌+◌, ◌*◌, ◌≤◌, length, get_or};
+ghost use Rattle.std.specs.Prelude.{◌+◌, ◌≤◌, length};
 
 use logs::{MarkNumber, Node};
 use shape::Mark;
@@ -27,9 +27,9 @@ pub struct Compare {
 impl Run {
     // Reads the header of a run; none where it asks for more than there is room for.
     pub fn read(header: &[u8; 14]) -> Option<Run> {
-        let counts = two_bytes(header, 0) as usize;
-        let words = two_bytes(header, 2) as usize;
-        let mail = two_bytes(header, 4) as usize;
+        let counts = reading::number_at(header, 0) as usize;
+        let words = reading::number_at(header, 2) as usize;
+        let mail = reading::number_at(header, 4) as usize;
         let report = four_bytes(header, 6) as usize;
         let log = four_bytes(header, 10) as usize;
         if counts > 2048 || words > 2048 || mail > 8192 || report > 131072 || log > 24576 {
@@ -62,14 +62,6 @@ impl Compare {
     }
 }
 
-// The number of two bytes, low byte first.
-fn two_bytes(header: &[u8], at: usize) -> u16
-    requires { at + 2 ≤ length header.now }
-    ensures { result ≡ get_or header.now at 0 + 256 * get_or header.now (at + 1) 0 }
-{
-    u16::from_le_bytes([header[at], header[at + 1]])
-}
-
 // The number of four bytes, low byte first.
 fn four_bytes(header: &[u8], at: usize) -> u32
     requires { at + 4 ≤ length header.now }
@@ -83,6 +75,6 @@ fn mark(header: &[u8], at: usize) -> Mark
 {
     Mark {
         node: Node(header[at]),
-        number: MarkNumber(two_bytes(header, at + 1)),
+        number: MarkNumber(reading::number_at(header, at + 1)),
     }
 }

@@ -55,6 +55,7 @@ fn read_header<const N: usize>(input: &mut impl Read) -> Result<[u8; N], Stop> {
 }
 
 // Writes the line of a run: its number, place and totals, and the digests of its rooms.
+// kept: vectors prints number, place and totals too; a Display of `Answer` would put printing into crates/report, where nothing prints.
 fn print_run(rt: &impl Print, answer: Answer, rooms: &Rooms) -> io::Result<()> {
     let (number, place, totals) = (answer.number(), answer.place(), answer.totals());
     println!(rt;
@@ -91,9 +92,7 @@ fn print_compared(rt: &impl Print, compared: Result<Standing, Incomparable>) -> 
         Ok(Standing::Before) => rt.println("before"),
         Ok(Standing::After) => rt.println("after"),
         Ok(Standing::Apart) => rt.println("apart"),
-        Err(Incomparable::NotWellFormed(place)) => println!(rt; "14 {place}"),
-        Err(Incomparable::FirstAbsent) => rt.println("15 0"),
-        Err(Incomparable::SecondAbsent) => rt.println("16 0"),
+        Err(refused) => println!(rt; "{} {}", refused.number(), refused.place()),
     }
 }
 
@@ -113,6 +112,7 @@ fn answer_next(rt: &impl Print, input: &mut impl Read) -> Result<(), Stop> {
     if input::read_full(input, &mut kind)? == 0 {
         return Err(Stop::Ended);
     }
+    // kept: numbers, as the first byte of a frame has them
     match kind[0] {
         0 => answer_run(rt, input, Mode::Full),
         1 => answer_run(rt, input, Mode::Short),

@@ -35,8 +35,7 @@ pub fn admit(
         return Err(Reason::TooManyEvents.at(at));
     }
     match event {
-        Record::Idle(node) => admit_node(node, at, nodes),
-        Record::Mark(node) => admit_node(node, at, nodes),
+        Record::Idle(node) | Record::Mark(node) => admit_node(node, at, nodes),
         Record::Send(from, to, number) => admit_send(from, to, number, at, nodes, mail),
         Record::Receipt(node, number) => admit_receipt(node, number, at, nodes, mail),
     }

@@ -5,7 +5,10 @@
 ghost use Rattle.std.specs.Prelude.{◌≡◌, ◌+◌, ◌≤◌, ◌<◌, length};
 ghost use Rattle.reading.specs.Reading.{number_at, whole_at, stamp_here, count_at, past_count};
 
+use groups::Kind;
+
 // A node's count in a stamp, and the place past it.
+// kept: 0 for a missing count and no Option, since `count_at` and 01 count it so.
 #[derive(Clone, Copy)]
 pub struct Count {
     pub count: u16,
@@ -13,6 +16,7 @@ pub struct Count {
 }
 
 // Whether a whole record of this kind and so many bytes stands at a place.
+// kept: the kind is any byte and no `Kind`, which would ask more of whoever calls.
 #[tactic(auto, unfolding(crate::specs::Reading::whole_at))]
 pub fn whole(kind: u8, size: usize, report: &[u8], at: usize) -> bool
     requires { (at ≤ length report.now) × (0 < size) }
@@ -27,7 +31,7 @@ fn stamp_here(report: &[u8], at: usize, node: usize) -> bool
     requires { at ≤ length report.now }
     ensures { result ≡ stamp_here report.now at node }
 {
-    whole(0x22, 4, report, at) && report[at + 1] as usize == node
+    whole(Kind::Count as u8, 4, report, at) && report[at + 1] as usize == node
 }
 
 // The number at a place, low byte first.

@@ -1,14 +1,13 @@
 -- How a run ends, by what its first pass said: refused, too long for the report room, or written by the second pass, which
 -- comes to the same cut as the first since a log has one verdict.
 -- Assumes nothing.
-use mathlib.Core.Path.{◌≡◌, refl, sym, ◌∙◌, ap, subst}
+use mathlib.Core.Path.{◌≡◌, sym, ◌∙◌, ap, subst}
 use mathlib.Core.Logic.{◌⊎◌, inl, inr}
 use mathlib.Core.Bool.{Bool, true, false, cond}
-use mathlib.Core.List.{List, [], ◌∷◌, ◌++◌, append-nil}
+use mathlib.Core.List.{List, [], ◌++◌, append-nil}
 use Prim.Native.Nat.{ℕ, ◌<◌, ◌≤◌}
-use native.Mathlib.Omega.{arith}
 use lib.Dec.{leb}
-use lib.ListN.{length, take, drop, replicate, length-replicate}
+use lib.ListN.{length, take, drop, replicate}
 use lib.Seq.{drop-length, take_at, drop_at}
 use borrow.Author.Tests.{le-leb, lt-leb}
 use Rattle.order.specs.Order.{Event}
@@ -78,15 +77,6 @@ cleared_zero {counts} {words} {mail} {done = done} c w m h =
 -- and then they hold the state before any event
 pub zero_holds : (mode : Mode) {n : ℕ} {counts words mail : List ℕ} → Zero counts words mail → Holds n (barn mode []) counts words mail
 zero_holds mode z = rw (z.counts_zero, z.words_zero, z.mail_zero) (start_holds mode)
-
-pub zero_sizes : {counts words mail : List ℕ} → Zero counts words mail → (length counts ≡ 1024) × (length words ≡ 1056) × (length mail ≡ 4480)
-zero_sizes z =
-    (ap length z.counts_zero ∙ length-replicate {A = ℕ} 1024 0, ap length z.words_zero ∙ length-replicate {A = ℕ} 1056 0, ap length z.mail_zero ∙ length-replicate {A = ℕ} 4480 0)
-
--- a room of which no element was lent is as it was
-pub none_lent : (room part : List ℕ) → length part ≡ 0 → part ++ room ≡ room
-none_lent room [] e = refl
-none_lent room (x ∷ part) e = absurd (omega arith)
 
 -- ---- after the first pass
 

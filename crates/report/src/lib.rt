@@ -14,8 +14,8 @@ use passes::{Course, Tally};
 use room::{Mode, WorkRoom};
 
 // The answer of a run.
-// kept: an enum of its own and not a Result, since `Ran` and the tables tell the number, the place and the totals of each of the four,
-// and the numbers 2 to 12 as the verdict has them.
+// kept: an enum of its own and not a Result, since number, place and totals are promised of all four; and a number in `Refused` and no
+// `Reason`, since `answer_of` makes an answer of any number that a verdict may have.
 #[derive(Clone, Copy)]
 pub enum Answer {
     // 0: accepted, with the log's length and the totals.
@@ -87,6 +87,7 @@ fn bytes_alone(bytes: usize) -> Tally
 
 // Runs a log with full or short messages. The report goes to the front of its room only if the whole log is accepted and the
 // report fits. What the work room held before does not matter, and nothing behind its fixed sizes is touched.
+// kept: three slices and no WorkRoom, since slices of any size may be lent.
 pub fn run(
     mode: Mode,
     log: &[u8],
@@ -119,8 +120,8 @@ pub fn run(
     }
 }
 
-// kept: here and in the three functions below that all is zero is asked for at each, since a pass between them changes it, so that
-// no type can say it.
+// kept: course, room and report go through the four functions below as they are, as through those of `passes`. That all is zero is
+// asked for at each, since a pass between them changes it, so that no type can say it.
 
 // Lends cleared slices of just the fixed sizes as one work room, and runs the records of a log in it.
 fn settle_in(
@@ -151,7 +152,7 @@ fn settle(course: &Course<'_>, room: &mut WorkRoom<'_>, report: &mut [u8]) -> An
         room.new.counts.now room.new.words.now room.new.mail.now report.new result }
 {
     match look(course, room, report) {
-        Err(refusal) => Answer::from(refusal),
+        Err(refused) => Answer::from(refused),
         Ok(tally) => finish(course, tally, room, report),
     }
 }

@@ -5,28 +5,45 @@ use mathlib.Core.Path.{◌≡◌, refl, sym, ap, ◌∙◌}
 use mathlib.Core.Logic.{◌≢◌}
 use mathlib.Core.Bool.{Bool, true, false, ◌||◌, or-false, or-true, true≢false, false≢true}
 use mathlib.Core.Option.{none, some}
-use mathlib.Core.List.{List, [], ◌∷◌}
-use Prim.Native.Nat.{ℕ, zero, suc, ◌+◌, ◌*◌, ◌<◌, ◌≤◌}
+use mathlib.Core.List.{List, [], ◌∷◌, ◌++◌}
+use Prim.Native.Nat.{ℕ, zero, suc, ◌+◌, ◌*◌, ◌<◌, ◌≤◌, min}
 use native.Mathlib.Nat.{le_refl, add-zero}
 use native.Mathlib.Numerals.{add-one}
 use native.Mathlib.Decide.{ℕ_discrete}
 use native.Mathlib.Omega.{arith}
-use lib.Dec.{eqb-suc-zero}
+use lib.Dec.{eqb, eqb-suc-zero}
 use lib.ListN.{length, get_or, take}
 use lib.Seq.{take_all}
 use borrow.Author.Tests.{eq-eqb, eqb-true}
 use Rattle.order.specs.Order.{Event, Flying}
 use Rattle.order.specs.Flight.{Message, in_flight}
 use Rattle.std.proofs.Common.{Option, Some, None, MatchOption}
-use Rattle.std.specs.Option.{option_or}
+use Rattle.std.specs.Prelude.{unwrap_or}
 use Rattle.std.proofs.lemmas.Grind.{common_steps}
+use Rattle.std.proofs.lemmas.List.{length_push}
 use Rattle.room.specs.Slots.{Slot, slot_at, bears, lowest, slot_of, slots}
 use Rattle.room.specs.Room.{Barn, barn, element, Letters}
 use Rattle.room.specs.Finding.{Bears, Finds, finds, misses, looked, surveyed, Mailed}
+use Rattle.room.specs.declared.mail.Seen.{Seen}
 use Rattle.room.proofs.Slots.{taken, free_taken, lowest_free, lowest_taken, slot_flies, slot_of_flying, taken_flying}
 use Rattle.room.proofs.LawfulSlots.{slots_few, flying_lies}
 
 -- ---- the walk over the mail
+
+-- one slot more: a free one may be the lowest, and a taken one counts
+module _ {A : Type 0} (number : ℕ) (mail : List ℕ) (xs : List A) (x : A) where
+  abbrev before : Seen
+  before = surveyed number mail (length xs)
+
+  pub one_free : get_or mail (35 * length xs) 0 ≡ 0 → surveyed number mail (length (xs ++ x ∷ []))
+      ≡ record { repeated = before.repeated; free = Some (min (unwrap_or before.free (length xs)) (length xs)); flying = before.flying }
+  unfolding surveyed looked
+  one_free h = rw (length_push, add-one, h)
+
+  pub one_taken : get_or mail (35 * length xs) 0 ≢ 0 → surveyed number mail (length (xs ++ x ∷ []))
+      ≡ record { repeated = before.repeated || eqb (get_or mail (35 * length xs + 2) 0) number; free = before.free; flying = suc before.flying }
+  unfolding surveyed looked
+  one_taken h = rw (length_push, add-one) (grind arith)
 
 -- as many slots are counted as were looked at if none was free, and fewer if one was
 surveyed_free : (number : ℕ) (mail : List ℕ) (k : ℕ)
@@ -55,7 +72,7 @@ lies {n} {b} {mail} l s h = go (slot_at b.mail s) (λ x. l.laid s x h)
 
 -- the lowest free slot that is known after slot s too
 abbrev freed : ℕ → Slot → Option ℕ → Option ℕ
-freed s none free = option_or free (Some s)
+freed s none free = Some (min (unwrap_or free s) s)
 freed s (some x) free = free
 
 -- what a look at slot s makes known

@@ -1,7 +1,7 @@
 -- What is found in the mail: the slot of a letter, the lowest free slot, and how many slots are taken.
 -- Assumes nothing.
-use Rattle.std.specs.Prelude.{◌≡◌, ◌≢◌, false, ◌||◌, cond, List, ℕ, zero, suc, ◌+◌, ◌*◌, ◌<◌, eqb, get_or, Option, Some, None}
-use Rattle.std.specs.Option.{option_or}
+use Rattle.std.specs.Prelude.{◌≡◌, ◌≢◌, false, ◌||◌, cond, List, ℕ, zero, suc, ◌+◌, ◌*◌, ◌<◌, min, eqb, get_or}
+use Rattle.std.specs.Prelude.{Option, Some, None, unwrap_or}
 use Rattle.order.specs.Order.{Event}
 use Rattle.verdict.specs.Lawful.{Lawful}
 use Rattle.room.specs.declared.Mode.{Mode}
@@ -17,12 +17,12 @@ pub data Finds (mail : List ℕ) (number : ℕ) : Option ℕ → Type 0 where
   finds : {s : ℕ} → s < 128 → Bears mail number s → ((t : ℕ) → t < s → ¬ Bears mail number t) → Finds mail number (Some s)
   misses : ((t : ℕ) → t < 128 → ¬ Bears mail number t) → Finds mail number None
 
--- what is known after slot s too, whose first element is `sender` and whose number is `borne`: a free slot is the lowest if none
--- was free before, a taken one counts, and may repeat the number
+-- what is known after slot s too, whose first element is `sender` and whose number is `borne`: the lowest free slot is the
+-- lesser of slot s, if it is free, and the one known before; a taken one counts, and may repeat the number
 unfoldable pub looked : ℕ → ℕ → ℕ → ℕ → Seen → Seen
 looked number s sender borne seen =
     cond (eqb sender 0)
-    (record { repeated = seen.repeated; free = option_or seen.free (Some s); flying = seen.flying })
+    (record { repeated = seen.repeated; free = Some (min (unwrap_or seen.free s) s); flying = seen.flying })
     (record { repeated = seen.repeated || eqb borne number; free = seen.free; flying = suc seen.flying })
 
 -- what is known of the first k slots

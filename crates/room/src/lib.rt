@@ -20,7 +20,7 @@ pub enum Mode {
 
 // Clears the work room: 1,024 counts, 1,056 words, 4,480 elements of mail, and nothing behind them. Where one of the slices is
 // smaller nothing is touched, and the answer is false.
-// kept: a bool, since `Cleared` tells what the slices hold by it.
+// kept: a bool, since a Result would have one refusal, and nothing to say of it; `Cleared` tells what the slices hold by it.
 pub fn clear(counts: &mut [u16], words: &mut [u32], mail: &mut [u16]) -> bool
     ensures { Cleared
         counts.old words.old mail.old

@@ -22,9 +22,8 @@ pub fn find(mail: &[u16], message: MessageNumber) -> Option<usize>
     requires { length mail.now ≡ 4480 }
     ensures { Finds mail.now message.0 result }
 {
-    for slot in 0..128 {
-        let at = 35 * slot;
-        if mail[at] != 0 && mail[at + 2] == message.0 {
+    for (slot, letter) in mail.chunks_exact(35).enumerate() {
+        if letter[0] != 0 && letter[2] == message.0 {
             return Some(slot);
         }
     }
@@ -41,13 +40,12 @@ pub fn survey(mail: &[u16], message: MessageNumber) -> Seen
         free: None,
         flying: 0,
     };
-    #[tactic(auto, unfolding(crate::specs::Finding::surveyed, crate::specs::Finding::looked))]
-    for slot in 0..128 {
-        let at = 35 * slot;
-        if mail[at] == 0 {
-            seen.free = seen.free.or(Some(slot));
+    #[tactic(auto, using(crate::proofs::Surveying::one_free, crate::proofs::Surveying::one_taken), unfolding(crate::specs::Finding::surveyed))]
+    for (slot, letter) in mail.chunks_exact(35).enumerate() {
+        if letter[0] == 0 {
+            seen.free = Some(seen.free.unwrap_or(slot).min(slot));
         } else {
-            seen.repeated |= mail[at + 2] == message.0;
+            seen.repeated |= letter[2] == message.0;
             seen.flying += 1;
         }
     }

@@ -2,6 +2,8 @@
 ghost use Rattle.std.specs.Prelude.{◌≡◌, length};
 
 // Three slices, of just the sizes of docs/LAYOUT.md.
+// kept: rows and slots are parts of them, found by an index times their size, and a free slot is zero, since so they lie in the rooms
+// that C lends.
 #[derive(Drop)]
 pub struct WorkRoom<'a> {
     // The counts of the nodes, row after row.

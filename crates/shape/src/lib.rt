@@ -2,9 +2,11 @@
 #![tactic(auto)]
 
 ghost use Rattle.std.specs.Prelude.{◌≡◌, cond, ◌&&◌, ◌+◌, ◌*◌, ◌≤◌, ◌<◌, eqb, length};
+ghost use Rattle.groups.specs.Groups.{byte_of};
 ghost use Rattle.reading.specs.Reading.{whole_at, stamp_place, stamp_at};
 ghost use Rattle.shape.specs.Shape.{in_range, entry_fits, stamp_fits, stamp_ends, causes_fit, mark_fits, group_fits, mark_here, past_group, group_seen};
 
+use groups::Kind;
 use logs::{MarkNumber, Node};
 
 // A mark: its node, and its number among the marks of that node.
@@ -41,7 +43,7 @@ fn fitting(report: &[u8], at: usize) -> Option<(Mark, usize)>
     requires { at ≤ length report.now }
     ensures { result ≡ cond (group_fits report.now at) (Some (mark_here report.now at, past_group report.now at)) None }
 {
-    let mark = named(0x21, 5, report, at)?;
+    let mark = named(Kind::Mark, 5, report, at)?;
     let place = stamp(report, at + 5, mark)?;
     let past = causes(report, place, report[at + 4])?;
     Some((mark, past))
@@ -59,8 +61,8 @@ fn stamp(report: &[u8], at: usize, mark: Mark) -> Option<usize>
     let mut low = 0;
     let mut own = MarkNumber(0);
     // kept: a `while`, since nothing counts the records of a stamp; the one at the place reached says whether it goes on
-    while reading::whole(0x22, 1, report, place) {
-        let count = entry(0x22, report, place, low)?;
+    while reading::whole(Kind::Count as u8, 1, report, place) {
+        let count = entry(Kind::Count, report, place, low)?;
         if count.node == mark.node {
             own = count.number;
         }
@@ -78,7 +80,7 @@ fn causes(report: &[u8], at: usize, count: u8) -> Option<usize>
     let mut place = at;
     let mut low = 0;
     for _ in 0..count {
-        let cause = entry(0x23, report, place, low)?;
+        let cause = entry(Kind::Cause, report, place, low)?;
         low = cause.node.0 + 1;
         place += 4;
     }
@@ -87,20 +89,20 @@ fn causes(report: &[u8], at: usize, count: u8) -> Option<usize>
 
 // What a whole record of this kind at a place names, if that is of a node from `low` on and keeps the rules.
 #[tactic(auto, unfolding(crate::specs::Shape::entry_fits, crate::specs::Shape::mark_here, crate::specs::Shape::mark_fits))]
-fn entry(kind: u8, report: &[u8], at: usize, low: u8) -> Option<Mark>
+fn entry(kind: Kind, report: &[u8], at: usize, low: u8) -> Option<Mark>
     requires { at ≤ length report.now }
-    ensures { result ≡ cond (entry_fits kind report.now at low) (Some (mark_here report.now at)) None }
+    ensures { result ≡ cond (entry_fits (byte_of kind) report.now at low) (Some (mark_here report.now at)) None }
 {
     named(kind, 4, report, at).filter(|mark| low <= mark.node.0)
 }
 
 // The node and the number that a whole record of this kind and so many bytes names at a place, if they keep the rules.
 #[tactic(auto, using(reading::proofs::Standing::whole_fits), unfolding(crate::specs::Shape::mark_here))]
-fn named(kind: u8, size: usize, report: &[u8], at: usize) -> Option<Mark>
+fn named(kind: Kind, size: usize, report: &[u8], at: usize) -> Option<Mark>
     requires { (at ≤ length report.now) × (4 ≤ size) }
-    ensures { result ≡ cond (whole_at kind size report.now at && mark_fits (mark_here report.now at)) (Some (mark_here report.now at)) None }
+    ensures { result ≡ cond (whole_at (byte_of kind) size report.now at && mark_fits (mark_here report.now at)) (Some (mark_here report.now at)) None }
 {
-    if !reading::whole(kind, size, report, at) {
+    if !reading::whole(kind as u8, size, report, at) {
         return None;
     }
     let mark = Mark {

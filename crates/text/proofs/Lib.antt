@@ -1,4 +1,5 @@
 pub mod Turns
+pub mod Parts
 pub mod Answered
 pub mod Lines
 pub mod Samples

@@ -2,21 +2,21 @@
 -- Assumes nothing.
 use mathlib.Core.Path.{◌≡◌, refl, sym, ap, ◌∙◌}
 use mathlib.Core.List.{List, [], ◌∷◌, ◌++◌, append_assoc, append-nil}
-use Prim.Native.Nat.{ℕ, zero, suc, ◌+◌, ◌*◌}
-use native.Mathlib.Nat.{add-zero}
+use Prim.Native.Nat.{ℕ, zero, suc, ◌+◌, ◌<◌}
 use native.Mathlib.Numerals.{add-one}
 use native.Mathlib.Omega.{arith}
+use lib.ListN.{length, get_or, take}
 use Rattle.groups.specs.Groups.{Laid}
 use Rattle.words.specs.Words.{decimal}
 use Rattle.groups.proofs.Laying.{and_then}
-use Rattle.reading.specs.Reading.{node_at, number_here, count_at, stamp_place, stamp_at, causes_at}
-use Rattle.text.specs.Text.{name_text, stamp_text, causes_text, nearest_text}
+use Rattle.reading.specs.Reading.{node_at, number_here, count_at, stamp_place, stamp_at}
+use Rattle.text.specs.Text.{named, name_text, stamp_text, causes_text, nearest_text}
 
 -- the node, the dot and the number of a name
-pub name_laid : {at p q r number' : ℕ} {room room₁ room₂ room₃ : List ℕ} (node number : ℕ) → number ≡ number'
-    → Laid at (decimal node) room room₁ p → Laid p (46 ∷ []) room₁ room₂ q → Laid q (decimal number) room₂ room₃ r → Laid at (name_text node number') room room₃ r
+pub name_laid : {at p q r : ℕ} {room room₁ room₂ room₃ : List ℕ} (node number : ℕ)
+    → Laid at (decimal node) room room₁ p → Laid p (46 ∷ []) room₁ room₂ q → Laid q (decimal number) room₂ room₃ r → Laid at (name_text node number) room room₃ r
 unfolding name_text
-name_laid node number e f g h = rw (← e) (and_then (and_then f g) h)
+name_laid node number f g h = and_then (and_then f g) h
 
 -- ---- the stamp
 
@@ -32,31 +32,43 @@ stamp_more report place k r c f g =
 
 -- ---- the direct predecessors
 
+-- two runs of them, one behind the other
+causes_append : (xs ys : List (ℕ × ℕ)) → causes_text (xs ++ ys) ≡ causes_text xs ++ causes_text ys
+unfolding causes_text
+causes_append [] ys = refl
+causes_append (x ∷ xs) ys =
+    ap (λ (l : List ℕ). (32 ∷ name_text x.0 x.1) ++ l) (causes_append xs ys)
+    ∙ sym (append_assoc (32 ∷ name_text x.0 x.1) (causes_text xs) (causes_text ys))
+
 -- the first ones and the one behind them
-causes_next : (report : List ℕ) (k place : ℕ) → causes_text (causes_at report place (suc k))
-    ≡ causes_text (causes_at report place k) ++ (32 ∷ name_text (node_at report (place + 4 * k)) (number_here report (place + 4 * k)))
-unfolding causes_text causes_at
-causes_next report zero place = rw (add-zero place, append-nil (name_text (node_at report place) (number_here report place)))
-causes_next report (suc k) place =
-    let next : place + 4 + 4 * k ≡ place + 4 * suc k = omega arith in
-    let first : List ℕ = 32 ∷ name_text (node_at report place) (number_here report place) in
-    ap (λ (l : List ℕ). first ++ l) (causes_next report k (place + 4))
-    ∙ rw next (sym (append_assoc first (causes_text (causes_at report (place + 4) k)) (32 ∷ name_text (node_at report (place + 4 * suc k)) (number_here report (place + 4 * suc k)))))
+named_more : (records : List (List ℕ)) (k : ℕ) → k < length records
+    → let mark = get_or records k [] in named (take (suc k) records) ≡ named (take k records) ++ ((node_at mark 0, number_here mark 0) ∷ [])
+named_more [] k h = absurd (omega arith)
+named_more (first ∷ rest) zero h = refl
+named_more (first ∷ rest) (suc k) h = ap (λ (l : List (ℕ × ℕ)). (node_at first 0, number_here first 0) ∷ l) (named_more rest k (omega arith))
 
 -- one more of them
-pub causes_more : (report : List ℕ) (place k : ℕ) {at write write' : ℕ} {room₀ room room' : List ℕ}
-    → Laid at (causes_text (causes_at report place k)) room₀ room write
-    → Laid write (32 ∷ name_text (node_at report (place + 4 * k)) (number_here report (place + 4 * k))) room room' write'
-    → Laid at (causes_text (causes_at report place (k + 1))) room₀ room' write'
-causes_more report place k f g = rw (add-one k, causes_next report k place) (and_then f g)
+pub causes_more : (records : List (List ℕ)) (k : ℕ) {at write write' : ℕ} {room₀ room room' : List ℕ} → k < length records
+    → Laid at (causes_text (named (take k records))) room₀ room write
+    → let mark = get_or records k [] in Laid write (32 ∷ name_text (node_at mark 0) (number_here mark 0)) room room' write'
+    → Laid at (causes_text (named (take (k + 1) records))) room₀ room' write'
+unfolding causes_text
+causes_more records k h f g =
+    let mark = get_or records k [] in
+    rw (
+      add-one k,
+      named_more records k h,
+      causes_append (named (take k records)) ((node_at mark 0, number_here mark 0) ∷ []),
+      append-nil (name_text (node_at mark 0) (number_here mark 0)),
+    ) (and_then f g)
 
-module _ (report : List ℕ) (place : ℕ) where
-  -- a dash where there is none
-  pub nearest_none : (count : ℕ) → count ≡ 0 → nearest_text (causes_at report place count) ≡ 32 ∷ 45 ∷ []
-  unfolding nearest_text causes_at
-  nearest_none count e = rw e
+-- a dash where there is none
+pub nearest_none : (records : List (List ℕ)) → length records ≡ 0 → nearest_text (named records) ≡ 32 ∷ 45 ∷ []
+unfolding nearest_text
+nearest_none [] e = refl
+nearest_none (first ∷ rest) e = absurd (omega (arith, e))
 
-  pub nearest_some : (count : ℕ) → ¬ (count ≡ 0) → nearest_text (causes_at report place count) ≡ causes_text (causes_at report place count)
-  unfolding nearest_text causes_at
-  nearest_some zero h = absurd (h refl)
-  nearest_some (suc count) h = refl
+pub nearest_some : (records : List (List ℕ)) → ¬ (length records ≡ 0) → nearest_text (named records) ≡ causes_text (named records)
+unfolding nearest_text
+nearest_some [] h = absurd (h refl)
+nearest_some (first ∷ rest) h = refl

@@ -1,10 +1,10 @@
 -- The program's text: a line for each mark of a report (01, "Logs to try"). A word stands as the codes of its letters.
 -- Assumes nothing.
-use Rattle.std.specs.Prelude.{cond, ◌&&◌, Option, Some, None, Result, Ok, Err, List, [], ◌∷◌, ◌++◌, ℕ, zero, suc, leb, length}
+use Rattle.std.specs.Prelude.{cond, ◌&&◌, Option, Some, None, Result, Ok, Err, List, [], ◌∷◌, ◌++◌, map, ℕ, zero, suc, leb, length}
 use Rattle.machine.specs.Answer.{Answer}
 use Rattle.groups.specs.Groups.{laid}
 use Rattle.words.specs.Words.{decimal}
-use Rattle.reading.specs.Reading.{answer_at}
+use Rattle.reading.specs.Reading.{node_at, number_here, answer_at}
 use Rattle.shape.specs.Shape.{group_fits, past_group}
 use Rattle.text.specs.declared.Line.{Line}
 use Rattle.text.specs.declared.NoLine.{NoLine}
@@ -19,6 +19,10 @@ name_text node number = decimal node ++ (46 ∷ []) ++ decimal number
 unfoldable pub stamp_text : ℕ → (ℕ → ℕ) → List ℕ
 stamp_text zero stamp = []
 stamp_text (suc k) stamp = stamp_text k stamp ++ (32 ∷ decimal (stamp k))
+
+-- the direct predecessors that records name, each as a node and a number
+abbrev pub named : List (List ℕ) → List (ℕ × ℕ)
+named = map (λ mark. (node_at mark 0, number_here mark 0))
 
 -- the direct predecessors, a space before each
 unfoldable pub causes_text : List (ℕ × ℕ) → List ℕ

@@ -1,19 +1,20 @@
 // The program's text: a line for each mark of a report.
-// kept: report, place and how many predecessors are parameters of each, as `stamp_at` and `causes_at` take them, which the lines promise.
+// kept: a report and a place are two parameters of what lays a stamp, as `stamp_at` takes them, which the lines promise.
 #![tactic(auto)]
 
 ghost use Rattle.std.specs.Prelude.{◌≡◌, true, ◌∷◌, ◌++◌, ◌+◌, ◌*◌, ◌≤◌, length};
 ghost use Rattle.groups.specs.Groups.{Laid};
 ghost use Rattle.groups.specs.Pen.{Same};
 ghost use Rattle.words.specs.Words.{decimal};
-ghost use Rattle.reading.specs.Reading.{node_at, number_here, stamp_at, causes_at, answer_at};
+ghost use Rattle.reading.specs.Reading.{stamp_at, answer_at};
 ghost use Rattle.shape.specs.Shape.{group_fits, past_group};
-ghost use Rattle.text.specs.Text.{name_text, stamp_text, causes_text, nearest_text, stamp_part, from_part, line_of, line_at};
+ghost use Rattle.text.specs.Text.{named, name_text, stamp_text, causes_text, nearest_text, stamp_part, from_part, line_of, line_at};
 
 use groups::Pen;
 use shape::BadGroup;
 
 // A line that lies over the front of a room.
+// kept: the room is lent and may be longer, so how much of it was written is told beside it.
 #[derive(Clone, Copy, Drop, PartialEq, Eq)]
 pub struct Line {
     // How many bytes it has.
@@ -35,6 +36,7 @@ impl From<BadGroup> for NoLine {
 }
 
 // Lays the line of the mark whose group stands at a place of the report over the front of the room. None where the report ends.
+// kept: that the room keeps its length is promised here, as in `closing`.
 #[tactic(auto, unfolding(shape::specs::Shape::group_seen, crate::specs::Text::written_line, crate::specs::Text::line_at))]
 pub fn mark_line(
     report: &[u8],
@@ -65,9 +67,15 @@ fn lay_mark(report: &[u8], place: usize, past: usize, nodes: usize, pen: &mut Pe
     ensures laid { Laid pen.old.at (line_of nodes (answer_at report.now place)) pen.old.room.now pen.new.room.now pen.new.at }
 {
     let count = report[place + 4] as usize;
-    name(b"mark ", report, place, pen);
+    let (records, _) = report[past - 4 * count..past].as_chunks();
+    name(
+        b"mark ",
+        report[place + 1],
+        reading::number_at(report, place + 2),
+        pen,
+    );
     stamp(report, place + 5, nodes, pen);
-    ending(report, past - 4 * count, count, pen);
+    ending(records, pen);
 }
 
 // Lays the word and the counts of a stamp.
@@ -81,32 +89,29 @@ fn stamp(report: &[u8], place: usize, nodes: usize, pen: &mut Pen<'_>)
     counts(report, place, nodes, pen);
 }
 
-// Lays the word, the direct predecessors and the line's end.
-fn ending(report: &[u8], place: usize, count: usize, pen: &mut Pen<'_>)
-    requires { (place + 4 * count ≤ length report.now) × (pen.old.at + 8 + 12 * count ≤ length pen.old.room.now) }
+// Lays the word, the direct predecessors that records name, and the line's end.
+fn ending(records: &[[u8; 4]], pen: &mut Pen<'_>)
+    requires { pen.old.at + 8 + 12 * length records.now ≤ length pen.old.room.now }
     ensures same { Same pen.old pen.new }
-    ensures laid { Laid pen.old.at (from_part (causes_at report.now place count)) pen.old.room.now pen.new.room.now pen.new.at }
+    ensures laid { Laid pen.old.at (from_part (named records.now)) pen.old.room.now pen.new.room.now pen.new.at }
 {
     words::word(b" from", pen);
-    nearest(report, place, count, pen);
+    nearest(records, pen);
     words::word(b"\n", pen);
 }
 
-// Lays a word and the mark that a record names: node, dot, number.
+// Lays a word and the name of a mark: node, dot, number.
 #[tactic(auto, using(words::proofs::Decimals::short_decimal))]
-fn name(before: &[u8], report: &[u8], place: usize, pen: &mut Pen<'_>)
-    requires { (place + 4 ≤ length report.now) × (pen.old.at + length before.now + 11 ≤ length pen.old.room.now) }
+fn name(before: &[u8], node: u8, number: u16, pen: &mut Pen<'_>)
+    requires { pen.old.at + length before.now + 11 ≤ length pen.old.room.now }
     ensures same { Same pen.old pen.new }
-    ensures laid { Laid pen.old.at (before.now ++ name_text (node_at report.now place) (number_here report.now place))
-        pen.old.room.now pen.new.room.now pen.new.at }
+    ensures laid { Laid pen.old.at (before.now ++ name_text node number) pen.old.room.now pen.new.room.now pen.new.at }
     ensures ends_by { pen.new.at ≤ pen.old.at + length before.now + 11 }
 {
-    let node = report[place + 1] as usize;
-    let number = reading::number_at(report, place + 2) as usize;
     words::word(before, pen);
-    words::number(node, pen);
+    words::number(node as usize, pen);
     words::word(b".", pen);
-    words::number(number, pen);
+    words::number(number as usize, pen);
 }
 
 // Lays a space and a count.
@@ -137,29 +142,29 @@ fn counts(report: &[u8], place: usize, nodes: usize, pen: &mut Pen<'_>)
     }
 }
 
-// Lays the direct predecessors that stand at a place.
-fn causes(report: &[u8], place: usize, count: usize, pen: &mut Pen<'_>)
-    requires { (place + 4 * count ≤ length report.now) × (pen.old.at + 12 * count ≤ length pen.old.room.now) }
+// Lays the direct predecessors that records name.
+fn causes(records: &[[u8; 4]], pen: &mut Pen<'_>)
+    requires { pen.old.at + 12 * length records.now ≤ length pen.old.room.now }
     ensures same { Same pen.old pen.new }
-    ensures laid { Laid pen.old.at (causes_text (causes_at report.now place count)) pen.old.room.now pen.new.room.now pen.new.at }
-    ensures ends_by { pen.new.at ≤ pen.old.at + 12 * count }
+    ensures laid { Laid pen.old.at (causes_text (named records.now)) pen.old.room.now pen.new.room.now pen.new.at }
+    ensures ends_by { pen.new.at ≤ pen.old.at + 12 * length records.now }
 {
-    for k in 0..count {
-        name(b" ", report, place + 4 * k, pen);
+    for &[_, node, low, high] in records {
+        name(b" ", node, u16::from_le_bytes([low, high]), pen);
     }
 }
 
 // Lays the direct predecessors, or a dash where there is none.
 #[tactic(auto, using(crate::proofs::Turns::nearest_none, crate::proofs::Turns::nearest_some))]
-fn nearest(report: &[u8], place: usize, count: usize, pen: &mut Pen<'_>)
-    requires { (place + 4 * count ≤ length report.now) × (pen.old.at + 2 + 12 * count ≤ length pen.old.room.now) }
+fn nearest(records: &[[u8; 4]], pen: &mut Pen<'_>)
+    requires { pen.old.at + 2 + 12 * length records.now ≤ length pen.old.room.now }
     ensures same { Same pen.old pen.new }
-    ensures laid { Laid pen.old.at (nearest_text (causes_at report.now place count)) pen.old.room.now pen.new.room.now pen.new.at }
-    ensures ends_by { pen.new.at ≤ pen.old.at + 2 + 12 * count }
+    ensures laid { Laid pen.old.at (nearest_text (named records.now)) pen.old.room.now pen.new.room.now pen.new.at }
+    ensures ends_by { pen.new.at ≤ pen.old.at + 2 + 12 * length records.now }
 {
-    if count == 0 {
+    if records.is_empty() {
         words::word(b" -", pen);
     } else {
-        causes(report, place, count, pen);
+        causes(records, pen);
     }
 }

@@ -1,5 +1,6 @@
 // Logs at the bounds, and just past them.
 // kept: functions that are lists of calls, a line for each case; in a loop over a table the places would have to be shown in range.
+// So does that an end is within the row: it is asked of each that is called with a number.
 ghost use Rattle.std.specs.Prelude.{◌≤◌, ◌<◌};
 
 use crate::trial::Trials;

@@ -38,9 +38,3 @@ pub returns-clause-passing : goal.returns-clause-passing
 returns-clause-passing c =
     let turned = rw c.in_default.is at (c.in_ok-next.ensures.turned c.loop-next.invariant.1 c.args.report.now c.loop-next.invariant.2) in
     whole (last_stands turned)
-
-pub returns-in_err-next-clause-same : goal.returns-in_err-next-clause-same
-returns-in_err-next-clause-same c = kept_on c.loop-next.invariant.0 c.take_turn.ensures.same
-
-pub returns-clause-same : goal.returns-clause-same
-returns-clause-same c = kept_on c.loop-next.invariant.0 c.take_turn.ensures.same

@@ -1,5 +1,5 @@
 -- `apply` meets its contract: what is ready gives each step what it asks, and each step follows the machine.
-use Rattle.steps.proofs.Ready.{ready_sizes, ready_nodes, ready_slot, ready_node, ready_counts, ready_mark, ready_sender}
+use Rattle.steps.proofs.Ready.{ready_sizes, ready_nodes, ready_slot, ready_node, ready_mark, ready_sender}
 use Rattle.steps.proofs.MarkFollows.{idle_follows}
 use Rattle.protocol.proofs.apply.Goals as goal
 
@@ -8,9 +8,6 @@ mark-requires c =
     let ready = rw c.in-Mark.is at c.requires.1 in
     let sizes = ready_sizes ready in
     ((ready_nodes ready).1, ready_node ready, sizes.0, sizes.1, ready_mark ready)
-
-pub send-requires : goal.send-requires
-send-requires c = (c.requires.0, rw c.in-Send.is at c.requires.1)
 
 pub receipt-requires : goal.receipt-requires
 receipt-requires c =
@@ -26,9 +23,6 @@ returns-in-Idle-clause-follows c =
 pub returns-in-Mark-clause-follows : goal.returns-in-Mark-clause-follows
 returns-in-Mark-clause-follows c =
     rw c.in-Mark.is (c.mark.ensures.follows c.args.mode c.args.slot c.args.room.now.mail.now)
-
-pub returns-in-Send-clause-follows : goal.returns-in-Send-clause-follows
-returns-in-Send-clause-follows c = rw c.in-Send.is c.send.ensures
 
 pub returns-in-Receipt-clause-follows : goal.returns-in-Receipt-clause-follows
 returns-in-Receipt-clause-follows c = rw c.in-Receipt.is (c.receipt.ensures.follows c.args.mode _)

@@ -1,24 +1,15 @@
--- `sends::send` meets its contract: in each mode the letter is posted and counted so, and what is sent so follows the machine.
+-- `sends::send` meets its contract: what each mode sends so follows the machine.
 use mathlib.Core.Path.{refl}
 use native.Mathlib.Omega.{arith}
 use Rattle.steps.proofs.SendFollows.{sent_follows}
 use Rattle.sends.proofs.send.Goals as goal
 
-pub returns-in-Full : goal.returns-in-Full
-returns-in-Full c =
-    let P = c.post in
-    rw c.in-Full.is (record {
-      sent = record { posted = P.ensures.posted; counted = refl };
-      follows = sent_follows (record { posted = P.ensures.posted; counted = refl }) (omega arith);
-    })
+pub returns-in-Full-clause-follows : goal.returns-in-Full-clause-follows
+returns-in-Full-clause-follows c =
+    rw c.in-Full.is (sent_follows (record { posted = c.post.ensures.posted; counted = refl }) (omega arith))
 
-pub returns-in-Short : goal.returns-in-Short
-returns-in-Short c =
-    let P = c.post-in-Short in
+pub returns-in-Short-clause-follows : goal.returns-in-Short-clause-follows
+returns-in-Short-clause-follows c =
+    let P = c.post-in-Short.ensures in
     let word = c.only-spared.ensures in
-    let posted = rw word at P.ensures.posted in
-    let counted = rw word at P.ensures.value in
-    rw c.in-Short.is (record {
-      sent = record { posted = posted; counted = counted };
-      follows = sent_follows (record { posted = posted; counted = counted }) (omega arith);
-    })
+    rw c.in-Short.is (sent_follows (record { posted = rw word at P.posted; counted = rw word at P.value }) (omega arith))

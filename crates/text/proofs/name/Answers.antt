@@ -6,4 +6,4 @@ use Rattle.text.proofs.name.Goals as goal
 pub returns-clause-laid : goal.returns-clause-laid
 returns-clause-laid c =
     and_then c.word.ensures.laid
-    (name_laid _ _ c.number_at-number.ensures c.number.ensures.laid c.word-2.ensures.laid c.number-2.ensures.laid)
+    (name_laid _ _ c.number.ensures.laid c.word-2.ensures.laid c.number-2.ensures.laid)

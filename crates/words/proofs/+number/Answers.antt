@@ -1,19 +1,12 @@
 -- `words::number` meets its contract: the last digit lies behind what a tenth of the number has, or stands alone.
 -- Assumes nothing.
-use mathlib.Core.Path.{◌≡◌, ap}
+use mathlib.Core.Path.{◌≡◌}
 use Prim.Native.Nat.{◌%◌}
 use native.Mathlib.Omega.{arith}
-use lib.ListN.{length}
 use Rattle.groups.proofs.Laying.{and_then}
-use Rattle.words.proofs.Decimals.{decimal_one, decimal_more, decimal_longer}
+use Rattle.words.proofs.Decimals.{decimal_one, decimal_more}
 use Rattle.words.proofs.+number.Goals.{then-n-ge10, else-n-ge10}
 use Rattle.words.proofs.+number.Goals as goal
-
-pub digit-requires : goal.digit-requires
-digit-requires t c = elim c.if-n-ge10.branch [
-  | then-n-ge10 w ↦ let laid = w.number.ensures.laid in rw w.pen-is (omega arith, omega (arith, decimal_longer _ w.if-n-ge10.true, laid.past_is))
-  | else-n-ge10 w ↦ rw w.pen-is (omega arith, omega (arith, ap length (decimal_one _ w.if-n-ge10.false)))
-]
 
 pub returns-clause-laid : goal.returns-clause-laid
 returns-clause-laid t c = elim c.if-n-ge10.branch [

@@ -2,6 +2,10 @@
 // that its arguments name, one after the other, or standard input where there is none. Names are UTF-8.
 #![tactic(auto)]
 
+ghost use Rattle.std.specs.Prelude.{ℕ, ◌≤◌, length, take, IfOk, OnErr};
+ghost use Rattle.std.specs.Io.KnownBytes.{Consumes};
+ghost use Rattle.input.specs.Filled.{Filled};
+
 use passes::Tally;
 use report::Answer;
 use room::Mode;
@@ -79,10 +83,33 @@ fn print_log(rt: &impl Print, log: &[u8]) -> io::Result<()> {
     print_refusal(rt, answer.number(), answer.place())
 }
 
+// Reads into a buffer until it is full or the input ends, and answers how many bytes it put at the front. Of what stands behind
+// them in the buffer nothing is said, since a reader may write there too. Where a read fails, no byte is lost: the front of the
+// buffer has what was read before.
+// kept: here and in the probe, since a function of both would be public, and every public function has one result (docs/PROMISES.md, E),
+// which no contract can fix of bytes that nobody knows before they are read. The buffer is lent and may be longer, so how much of it
+// was read is told beside it.
+fn read_full<R: Read>(input: &mut R, buffer: &mut [u8]) -> io::Result<usize>
+    ensures filled { IfOk result (λ size. Filled (R.remaining input.old) (R.remaining input.new) buffer.new size) }
+    ensures none_lost { OnErr result ((size : ℕ) × (size ≤ length buffer.new)
+        × Consumes (R.remaining input.old) (R.remaining input.new) (take size buffer.new)) }
+{
+    let mut done = 0;
+    // kept: a turn goes on by as many bytes as were read, so there is no index that counts up
+    while done < buffer.len() {
+        let size = input.read(&mut buffer[done..])?;
+        if size == 0 {
+            break;
+        }
+        done += size;
+    }
+    Ok(done)
+}
+
 // Reads a log, one byte more than the longest that can be accepted, and prints what a run makes of it.
 fn print_input(rt: &impl Print, input: &mut impl Read) -> io::Result<()> {
     let mut log = [0u8; 20483];
-    let size = input::read_full(input, &mut log)?;
+    let size = read_full(input, &mut log)?;
     if size > 20482 {
         let mut line = [0u8; 4096];
         let size = closing::too_long(&mut line);

@@ -13,6 +13,10 @@ mod digest;
 mod frame;
 mod rooms;
 
+ghost use Rattle.std.specs.Prelude.{ℕ, ◌≤◌, length, take, IfOk, OnErr};
+ghost use Rattle.std.specs.Io.KnownBytes.{Consumes};
+ghost use Rattle.input.specs.Filled.{Filled};
+
 use comparing::{Incomparable, Standing};
 use frame::{Compare, Run};
 use report::Answer;
@@ -39,9 +43,32 @@ impl From<io::Error> for Stop {
     }
 }
 
+// Reads into a buffer until it is full or the input ends, and answers how many bytes it put at the front. Of what stands behind
+// them in the buffer nothing is said, since a reader may write there too. Where a read fails, no byte is lost: the front of the
+// buffer has what was read before.
+// kept: here and in hatsuvren, since a function of both would be public, and every public function has one result (docs/PROMISES.md, E),
+// which no contract can fix of bytes that nobody knows before they are read. The buffer is lent and may be longer, so how much of it
+// was read is told beside it.
+fn read_full<R: Read>(input: &mut R, buffer: &mut [u8]) -> io::Result<usize>
+    ensures filled { IfOk result (λ size. Filled (R.remaining input.old) (R.remaining input.new) buffer.new size) }
+    ensures none_lost { OnErr result ((size : ℕ) × (size ≤ length buffer.new)
+        × Consumes (R.remaining input.old) (R.remaining input.new) (take size buffer.new)) }
+{
+    let mut done = 0;
+    // kept: a turn goes on by as many bytes as were read, so there is no index that counts up
+    while done < buffer.len() {
+        let size = input.read(&mut buffer[done..])?;
+        if size == 0 {
+            break;
+        }
+        done += size;
+    }
+    Ok(done)
+}
+
 // Reads a part of a frame; the frame is bad where the input ends before.
 fn read_part(input: &mut impl Read, part: &mut [u8]) -> Result<(), Stop> {
-    if input::read_full(input, part)? < part.len() {
+    if read_full(input, part)? < part.len() {
         return Err(Stop::BadFrame);
     }
     Ok(())
@@ -109,7 +136,7 @@ fn answer_compare(rt: &impl Print, input: &mut impl Read) -> Result<(), Stop> {
 // Reads and answers the next question.
 fn answer_next(rt: &impl Print, input: &mut impl Read) -> Result<(), Stop> {
     let mut kind = [0u8; 1];
-    if input::read_full(input, &mut kind)? == 0 {
+    if read_full(input, &mut kind)? == 0 {
         return Err(Stop::Ended);
     }
     // kept: numbers, as the first byte of a frame has them

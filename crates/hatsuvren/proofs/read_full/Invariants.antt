@@ -2,7 +2,7 @@
 -- turn leaves less of the buffer.
 use Rattle.std.proofs.Common.{length, ◌-◌, ◌≤◌, ◌≡◌, take}
 use Rattle.std.specs.Io.KnownBytes.{Consumes}
-use Rattle.input.proofs.read_full.Given as goal
+use Rattle.hatsuvren.proofs.read_full.Given as goal
 
 abbrev pub invariant-loop-done : goal.invariant-loop-done
 invariant-loop-done g l = record {

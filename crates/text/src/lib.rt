@@ -37,7 +37,7 @@ impl From<BadGroup> for NoLine {
 
 // Lays the line of the mark whose group stands at a place of the report over the front of the room. None where the report ends.
 // kept: that the room keeps its length is promised here, as in `closing`.
-#[tactic(auto, unfolding(shape::specs::Shape::group_seen, crate::specs::Text::written_line, crate::specs::Text::line_at))]
+#[tactic(auto, using(crate::proofs::Answered::parts_inside), unfolding(shape::specs::Shape::group_seen, crate::specs::Text::written_line, crate::specs::Text::line_at))]
 pub fn mark_line(
     report: &[u8],
     place: usize,

@@ -5,7 +5,7 @@ use Rattle.report.proofs.finish.Goals as goal
 
 pub returns-then-report-bytes-clause-settles : goal.returns-then-report-bytes-clause-settles
 returns-then-report-bytes-clause-settles c =
-    settles_overlong c.requires.looked c.if-report-bytes.true c.requires.zero
+    settles_overlong c.requires.looked (omega (arith, c.if-report-bytes.true)) c.requires.zero
 
 pub pass-requires : goal.pass-requires
 pass-requires c = zero_holds c.args.course.now.mode c.requires.zero

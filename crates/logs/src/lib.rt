@@ -59,11 +59,12 @@ pub enum Reason {
     TooManyEvents = 12,
 }
 
-// A refusal of a log: why, and the place.
+// A refusal of a log: why, and the place. The place is first, so that in a Result it does not lie over a record's bytes, which the
+// compiler would then put together and take apart again at every event.
 #[derive(Clone, Copy, PartialEq, Eq)]
 pub struct Refusal {
-    pub reason: Reason,
     pub place: usize,
+    pub reason: Reason,
 }
 
 impl Reason {

@@ -109,7 +109,11 @@ fn named(kind: Kind, size: usize, report: &[u8], at: usize) -> Option<Mark>
         node: Node(report[at + 1]),
         number: MarkNumber(reading::number_at(report, at + 2)),
     };
-    mark_fits(mark).then_some(mark)
+    // not `then_some`, which puts the mark together before it is known to fit
+    if !mark_fits(mark) {
+        return None;
+    }
+    Some(mark)
 }
 
 // Whether a mark's node is below 32, and its number in range.

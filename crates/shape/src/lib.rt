@@ -109,7 +109,7 @@ fn named(kind: Kind, size: usize, report: &[u8], at: usize) -> Option<Mark>
         node: Node(report[at + 1]),
         number: MarkNumber(reading::number_at(report, at + 2)),
     };
-    // not `then_some`, which puts the mark together before it is known to fit
+    // an `if`: of `then_some` the compiler makes code that packs each mark before it is known to fit
     if !mark_fits(mark) {
         return None;
     }

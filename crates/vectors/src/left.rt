@@ -37,7 +37,7 @@ impl fmt::Display for State {
 }
 
 // A report room: up to the last byte that is not the pattern, which no report ends in, it was written.
-#[derive(Drop)]
+#[derive(Clone, Copy)]
 pub struct Report<'a>(pub &'a [u8]);
 
 impl Report<'_> {

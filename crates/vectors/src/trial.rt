@@ -51,7 +51,7 @@ impl Display for Sizes {
 }
 
 // Where trials are printed, and the mode of their runs.
-#[derive(Drop)]
+#[derive(Clone, Copy)]
 pub struct Trials<'a, R: Print> {
     pub rt: &'a R,
     pub mode: Mode,

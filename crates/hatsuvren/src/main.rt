@@ -86,9 +86,9 @@ fn print_log(rt: &impl Print, log: &[u8]) -> io::Result<()> {
 // Reads into a buffer until it is full or the input ends, and answers how many bytes it put at the front. Of what stands behind
 // them in the buffer nothing is said, since a reader may write there too. Where a read fails, no byte is lost: the front of the
 // buffer has what was read before.
-// kept: here and in the probe, since a function of both would be public, and every public function has one result (docs/PROMISES.md, E),
-// which no contract can fix of bytes that nobody knows before they are read. The buffer is lent and may be longer, so how much of it
-// was read is told beside it.
+// kept: here and in the probe. `input::read_full` is the same for other programs, and is not called here: it is the one public function
+// of which no contract fixes the result, and no program of ours stands on it (docs/PROMISES.md, E). The buffer is lent and may be
+// longer, so how much of it was read is told beside it.
 fn read_full<R: Read>(input: &mut R, buffer: &mut [u8]) -> io::Result<usize>
     ensures filled { IfOk result (λ size. Filled (R.remaining input.old) (R.remaining input.new) buffer.new size) }
     ensures none_lost { OnErr result ((size : ℕ) × (size ≤ length buffer.new)
